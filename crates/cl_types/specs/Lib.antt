@@ -1,0 +1,5 @@
+pub mod AppendOnlyList
+pub mod Decimal
+pub mod GrowingList
+pub mod Names
+pub mod Plain

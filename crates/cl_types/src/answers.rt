@@ -1,0 +1,92 @@
+//! What is answered: to operations, to commands, and where something is refused.
+use crate::{TxnId, Value};
+
+/// The reply to an operation that was done.
+#[derive(Debug, Drop)]
+pub enum Reply {
+    Stored,
+    Found(Value),
+    Absent,
+    /// The sum that an addition left.
+    Sum(i64),
+    /// The record's value is no number.
+    NotNumber,
+    /// The sum is outside signed 64 bits.
+    OutOfRange,
+}
+
+/// A participant's answer to an operation.
+#[derive(Debug, Drop)]
+pub enum Answer {
+    Done(Reply),
+    /// Another transaction holds a lock in conflict.
+    Refused(TxnId),
+    NoMemory,
+}
+
+/// Why a transaction was aborted.
+#[derive(Clone, Copy, Debug, PartialEq, Eq)]
+pub enum AbortCause {
+    /// The transaction holds a lock in conflict.
+    Conflict(TxnId),
+    /// The node stopped.
+    Node(u32),
+    Client,
+    Memory,
+}
+
+/// The outcome of a client's command.
+#[derive(Debug, Drop)]
+pub enum Outcome {
+    Done(Reply),
+    Begun,
+    Committed,
+    Aborted(AbortCause),
+    /// A command other than BEGIN outside a transaction.
+    NotTxn,
+    /// BEGIN in a transaction.
+    InTxn,
+    /// An operation in a transaction that has its most operations.
+    Full,
+}
+
+/// Why the stop of a node is refused.
+#[derive(Clone, Copy, Debug, PartialEq, Eq)]
+pub enum StopFault {
+    /// There is no such node.
+    Unknown,
+    /// The node has stopped.
+    Down,
+    /// The node is the only member of the virtual node.
+    Last(u32),
+}
+
+/// Why a repair is refused.
+#[derive(Clone, Copy, Debug, PartialEq, Eq)]
+pub enum RepairFault {
+    /// There is no such virtual node.
+    Unknown,
+    /// The virtual node has a standby.
+    Paired,
+    /// A repair of the virtual node is under way.
+    Busy,
+    /// No living spare is on the other site.
+    NoSpare,
+}
+
+/// Why a dump is refused.
+#[derive(Clone, Copy, Debug, PartialEq, Eq)]
+pub enum DumpFault {
+    /// There is no such virtual node.
+    Unknown,
+    /// The virtual node has no standby.
+    Lone,
+}
+
+/// Why a step is refused.
+#[derive(Clone, Copy, Debug, PartialEq, Eq)]
+pub enum Refused {
+    NoMemory,
+    /// A number is at its end.
+    Spent,
+}

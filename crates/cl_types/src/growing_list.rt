@@ -1,0 +1,100 @@
+//! The one list that grows, on which every named list of the server stands.
+ghost use Rattle.std.specs.Prelude.{◌≡◌, ◌+◌, ◌≤◌, ◌↔◌, [], ◌∷◌, ◌++◌, length, IsTrue, IsOk, OnOk, OnErr, IfNone, IfSome, slice_get};
+ghost use Rattle.std.specs.Option.{option_copied, option_to_list};
+ghost use Rattle.cl_types.specs.GrowingList.{items, spare};
+
+use crate::NoMemory;
+use std::alloc::Global;
+
+/// A list of bytes that grows at its end.
+pub type Text = GrowingList<u8>;
+
+/// A list that grows and shrinks at its end.
+///
+/// Contracts see its items, first to last, and `spare`: for how many more items there is room.
+#[derive(Debug, Drop)]
+pub struct GrowingList<T> {
+    items: Vec<T>,
+}
+
+impl<T> GrowingList<T> {
+    /// An empty list. It takes no memory.
+    pub fn new(alloc: Global) -> Self
+        ensures { items result ≡ [] }
+    {
+        GrowingList {
+            items: Vec::new(alloc),
+        }
+    }
+
+    /// Makes room for `count` more items. What is in the list stays, whatever the answer.
+    pub fn reserve(&mut self, count: usize) -> Result<(), NoMemory>
+        ensures items { items self.new ≡ items self.old }
+        ensures ok { OnOk result (count ≤ spare self.new) }
+        ensures roomy { count ≤ spare self.old → IsOk result }
+        ensures kept { spare self.old ≤ spare self.new }
+    {
+        self.items.reserve(count)?;
+        Ok(())
+    }
+
+    /// Adds an item at the end. With room to spare it takes no memory; a refused item is dropped.
+    pub fn push(&mut self, item: T) -> Result<(), NoMemory>
+    where
+        T: Drop,
+        ensures ok { OnOk result (items self.new ≡ items self.old ++ item ∷ []) }
+        ensures err { OnErr result (items self.new ≡ items self.old) }
+        ensures roomy { 1 ≤ spare self.old → IsOk result }
+        ensures kept { spare self.old ≤ spare self.new + 1 }
+    {
+        self.items.push(item)?;
+        Ok(())
+    }
+
+    /// Takes the last item off. Its room stays.
+    pub fn pop(&mut self) -> Option<T>
+        ensures items { items self.old ≡ items self.new ++ option_to_list result }
+        ensures empty { IfNone result (items self.old ≡ []) }
+        ensures spare { IfSome result (λ _. spare self.new ≡ spare self.old + 1) }
+        ensures same { IfNone result (spare self.new ≡ spare self.old) }
+    {
+        self.items.pop()
+    }
+
+    /// How many items there are.
+    pub fn len(&self) -> usize
+        ensures { result ≡ length (items self.now) }
+    {
+        self.items.len()
+    }
+
+    /// Whether there is no item.
+    pub fn is_empty(&self) -> bool
+        ensures { IsTrue result ↔ (items self.now ≡ []) }
+    {
+        self.items.is_empty()
+    }
+
+    /// The item at a place, counted from 0, or `None` past the end.
+    pub fn at(&self, place: usize) -> Option<&T>
+        ensures { option_copied result ≡ slice_get (items self.now) place }
+    {
+        self.items.get(place)
+    }
+
+    /// The items, first to last.
+    pub fn as_slice(&self) -> &[T]
+        ensures { result.now ≡ items self.now }
+    {
+        self.items.as_slice()
+    }
+}
+
+impl GrowingList<u8> {
+    /// The bytes, first to last.
+    pub fn bytes(&self) -> &[u8]
+        ensures { result.now ≡ items self.now }
+    {
+        self.as_slice()
+    }
+}

@@ -1,0 +1,20 @@
+//! The words that every crate of the server shares: lists, names, values, operations and their answers.
+#![tactic(auto)]
+
+mod answers;
+mod append_only_list;
+mod apply;
+mod growing_list;
+mod names;
+mod no_memory;
+mod operations;
+mod value;
+
+pub use answers::{AbortCause, Answer, DumpFault, Outcome, Refused, RepairFault, Reply, StopFault};
+pub use append_only_list::AppendOnlyList;
+pub use apply::apply_op;
+pub use growing_list::{GrowingList, Text};
+pub use names::{KEY_MAX, Key, TABLE_NAME_MAX, TableName};
+pub use no_memory::NoMemory;
+pub use operations::{Command, Mode, Op, TxnId};
+pub use value::{VALUE_MAX, Value};

@@ -1,0 +1,34 @@
+ghost use Rattle.std.specs.Prelude.{◌≡◌};
+ghost use Rattle.cl_types.specs.declared.no_memory.NoMemory.{NoMemory};
+
+use std::alloc::{AllocError, AllocFailed};
+use std::error::Error;
+use std::fmt;
+
+/// A growth was refused by the allocator. What was called is as it was before the call.
+#[derive(Clone, Copy, Debug, PartialEq, Eq)]
+pub struct NoMemory;
+
+impl fmt::Display for NoMemory {
+    fn fmt<W: fmt::Write>(&self, f: &mut fmt::Formatter<W>) -> fmt::Result {
+        f.write_str("out of memory")
+    }
+}
+
+impl Error for NoMemory {}
+
+impl From<AllocError> for NoMemory {
+    ghost from_gives = { λ _ _. Unit {0} };
+
+    fn from(_error: AllocError) -> NoMemory {
+        NoMemory
+    }
+}
+
+impl<T: Drop> From<AllocFailed<T>> for NoMemory {
+    ghost from_gives = { λ _ _. Unit {0} };
+
+    fn from(_error: AllocFailed<T>) -> NoMemory {
+        NoMemory
+    }
+}

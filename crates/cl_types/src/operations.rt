@@ -1,0 +1,35 @@
+//! What a client asks: transactions, operations and commands.
+use crate::{Key, TableName, Value};
+
+/// The name of a transaction: the accepted BEGIN of that number, counted from 1, in a session.
+#[derive(Clone, Copy, Debug, PartialEq, Eq, PartialOrd, Ord, Hash)]
+pub struct TxnId {
+    pub session: u32,
+    pub number: u64,
+}
+
+/// The mode of a lock.
+#[derive(Clone, Copy, Debug, PartialEq, Eq)]
+pub enum Mode {
+    Shared,
+    Exclusive,
+}
+
+/// An operation on one record.
+#[derive(Debug, Drop)]
+pub enum Op {
+    Get,
+    Put(Value),
+    Del,
+    /// Adds the amount to the number that the record has, or to 0 where it has no value.
+    Add(i64),
+}
+
+/// What a client's line asks of its session.
+#[derive(Debug, Drop)]
+pub enum Command {
+    Begin,
+    Work(TableName, Key, Op),
+    Commit,
+    Abort,
+}
