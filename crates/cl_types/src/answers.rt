@@ -2,7 +2,7 @@
 use crate::{TxnId, Value};
 
 /// The reply to an operation that was done.
-#[derive(Debug, Drop)]
+#[derive(Debug, PartialEq, Eq, Drop)]
 pub enum Reply {
     Stored,
     Found(Value),
@@ -16,7 +16,7 @@ pub enum Reply {
 }
 
 /// A participant's answer to an operation.
-#[derive(Debug, Drop)]
+#[derive(Debug, PartialEq, Eq, Drop)]
 pub enum Answer {
     Done(Reply),
     /// Another transaction holds a lock in conflict.
@@ -36,7 +36,7 @@ pub enum AbortCause {
 }
 
 /// The outcome of a client's command.
-#[derive(Debug, Drop)]
+#[derive(Debug, PartialEq, Eq, Drop)]
 pub enum Outcome {
     Done(Reply),
     Begun,

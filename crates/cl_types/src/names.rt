@@ -1,5 +1,5 @@
 //! The names of tables and keys. They hold their bytes themselves, so copying one takes no memory.
-ghost use Rattle.std.specs.Prelude.{◌≡◌, Some, None, if◌then◌else◌};
+ghost use Rattle.std.specs.Prelude.{◌≡◌, ◌≤◌, length, Some, None, if◌then◌else◌};
 ghost use Rattle.std.specs.List.{list_all};
 ghost use Rattle.std.specs.Char.{is_ascii_lowercase};
 ghost use Rattle.cl_types.specs.Names.{is_table_name, is_key, is_key_byte};
@@ -53,6 +53,18 @@ fn are_key_bytes(bytes: &[u8]) -> bool
     bytes.iter().all(|byte| is_key_text_byte(*byte))
 }
 
+// The bytes in an array that has room for them.
+fn array_of<const CAP: usize>(bytes: &[u8]) -> ArrayVec<u8, CAP>
+    requires { length bytes.now ≤ CAP }
+    ensures { result.items ≡ bytes.now }
+{
+    let mut array = ArrayVec::new();
+    match array.try_extend_from_slice(bytes) {
+        Ok(()) => array,
+        Err(_) => unreachable!(),
+    }
+}
+
 impl TableName {
     /// The table's name that the bytes are, or `None` where they are not 1 to 8 letters `a` to `z`.
     pub fn read(bytes: &[u8]) -> Option<TableName>
@@ -61,10 +73,17 @@ impl TableName {
         if bytes.is_empty() || TABLE_NAME_MAX < bytes.len() || !are_lowercase(bytes) {
             return None;
         }
-        let mut name = ArrayVec::new();
-        match name.try_extend_from_slice(bytes) {
-            Ok(()) => Some(TableName { bytes: name }),
-            Err(_) => None,
+        Some(TableName {
+            bytes: array_of(bytes),
+        })
+    }
+
+    /// The same name. It takes no memory.
+    pub fn copy(&self) -> TableName
+        ensures { result ≡ self.now }
+    {
+        TableName {
+            bytes: array_of(self.bytes.as_slice()),
         }
     }
 
@@ -103,10 +122,17 @@ impl Key {
         if bytes.is_empty() || KEY_MAX < bytes.len() || !are_key_bytes(bytes) {
             return None;
         }
-        let mut key = ArrayVec::new();
-        match key.try_extend_from_slice(bytes) {
-            Ok(()) => Some(Key { bytes: key }),
-            Err(_) => None,
+        Some(Key {
+            bytes: array_of(bytes),
+        })
+    }
+
+    /// The same key. It takes no memory.
+    pub fn copy(&self) -> Key
+        ensures { result ≡ self.now }
+    {
+        Key {
+            bytes: array_of(self.bytes.as_slice()),
         }
     }
 

@@ -16,7 +16,7 @@ pub enum Mode {
 }
 
 /// An operation on one record.
-#[derive(Debug, Drop)]
+#[derive(Debug, PartialEq, Eq, Drop)]
 pub enum Op {
     Get,
     Put(Value),
@@ -26,7 +26,7 @@ pub enum Op {
 }
 
 /// What a client's line asks of its session.
-#[derive(Debug, Drop)]
+#[derive(Debug, PartialEq, Eq, Drop)]
 pub enum Command {
     Begin,
     Work(TableName, Key, Op),

@@ -1,9 +1,9 @@
 //! The values of records.
-ghost use Rattle.std.specs.Prelude.{◌≡◌, Some, None, IfOk, if◌then◌else◌};
+ghost use Rattle.std.specs.Prelude.{◌≡◌, Some, None, IfOk, if◌then◌else◌, nat_eq};
 ghost use Rattle.std.specs.List.{list_all};
 ghost use Rattle.std.specs.Char.{is_ascii_graphic};
-ghost use Rattle.std.specs.Cmp.{on_equiv, on_per};
-ghost use Rattle.std.specs.Cmp.Lexicographic.{pointwise};
+ghost use Rattle.std.specs.Cmp.{partial_equiv_from_equiv};
+ghost use Rattle.std.specs.Cmp.Lexicographic.{pointwise, nat_list_eq_equiv};
 ghost use Rattle.cl_types.specs.Names.{is_value};
 
 use crate::NoMemory;
@@ -28,6 +28,20 @@ impl Model for Value {
     ghost view = { λ value. value.bytes.items };
 
     ghost invariant = { λ value. is_value value.bytes.items ≡ true };
+}
+
+impl PartialEq for Value {
+    ghost eq = { λ value other. pointwise nat_eq value other };
+
+    ghost laws = { partial_equiv_from_equiv nat_list_eq_equiv };
+
+    fn eq(&self, other: &Value) -> bool {
+        self.bytes() == other.bytes()
+    }
+}
+
+impl Eq for Value {
+    ghost laws = { nat_list_eq_equiv };
 }
 
 // Whether each byte is printed and no blank.
