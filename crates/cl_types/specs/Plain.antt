@@ -43,10 +43,3 @@ plain_value Get old = old
 plain_value (Put y) old = Some y
 plain_value Del old = None
 plain_value (Add amount) old = add_value old (augend old) amount
-
--- a read or a write of a whole value
-abbrev pub IsGetOrPut : Op → Type 0
-IsGetOrPut Get = Unit {0}
-IsGetOrPut (Put y) = Unit {0}
-IsGetOrPut Del = ⊥
-IsGetOrPut (Add amount) = ⊥

@@ -4,6 +4,7 @@
 mod answers;
 mod append_only_list;
 mod apply;
+mod decimal;
 mod growing_list;
 mod names;
 mod no_memory;
@@ -13,6 +14,9 @@ mod value;
 pub use answers::{AbortCause, Answer, DumpFault, Outcome, Refused, RepairFault, Reply, StopFault};
 pub use append_only_list::AppendOnlyList;
 pub use apply::apply_op;
+pub use decimal::{
+    natural_and_text_law, natural_of, number_and_text_law, number_of, number_of_text,
+};
 pub use growing_list::{GrowingList, Text};
 pub use names::{KEY_MAX, Key, TABLE_NAME_MAX, TableName};
 pub use no_memory::NoMemory;

@@ -4,6 +4,7 @@ ghost use Rattle.std.specs.List.{list_all};
 ghost use Rattle.std.specs.Char.{is_ascii_graphic};
 ghost use Rattle.std.specs.Cmp.{partial_equiv_from_equiv};
 ghost use Rattle.std.specs.Cmp.Lexicographic.{pointwise, nat_list_eq_equiv};
+ghost use Rattle.std.specs.Fmt.{signed_decimal};
 ghost use Rattle.cl_types.specs.Names.{is_value};
 
 use crate::NoMemory;
@@ -69,6 +70,16 @@ impl Value {
     {
         let bytes = Vec::from_slice(alloc, self.bytes.as_slice())?;
         Ok(Value { bytes })
+    }
+
+    /// The value that is the canonical text of a number.
+    pub fn of_number(alloc: Global, number: i64) -> Result<Value, NoMemory>
+        ensures { IfOk result (λ value. value ≡ signed_decimal number) }
+    {
+        let text = number.to_string(alloc)?;
+        Ok(Value {
+            bytes: text.into_bytes(),
+        })
     }
 
     /// The bytes of the value.
