@@ -2,4 +2,5 @@ pub mod AppendOnlyList
 pub mod Decimal
 pub mod GrowingList
 pub mod Names
+pub mod Placement
 pub mod Plain

@@ -9,6 +9,9 @@ mod growing_list;
 mod names;
 mod no_memory;
 mod operations;
+mod placement;
+#[cfg(test)]
+mod tests;
 mod value;
 
 pub use answers::{AbortCause, Answer, DumpFault, Outcome, Refused, RepairFault, Reply, StopFault};
@@ -21,4 +24,5 @@ pub use growing_list::{GrowingList, Text};
 pub use names::{KEY_MAX, Key, TABLE_NAME_MAX, TableName};
 pub use no_memory::NoMemory;
 pub use operations::{Command, Mode, Op, TxnId};
+pub use placement::{fragment, hash, is_node_count, placement_law, vnode_of};
 pub use value::{VALUE_MAX, Value};

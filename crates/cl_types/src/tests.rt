@@ -1,0 +1,197 @@
+//! Worked cases, with values from outside the program.
+use crate::*;
+use std::alloc::Global;
+use std::test::Fail;
+
+fn value(alloc: Global, bytes: &[u8]) -> Result<Value, Fail> {
+    Ok(Value::read(alloc, bytes)?.ok_or("no value")?)
+}
+
+#[test]
+fn keys_stand_where_the_table_says(rt: HostRuntime) -> Result<(), Fail> {
+    let rows = [
+        (b'a', 0xE40C292C, 12, 0),
+        (b'b', 0xE70C2DE5, 5, 1),
+        (b'c', 0xE60C2C52, 2, 2),
+        (b'd', 0xE10C2473, 3, 3),
+        (b'f', 0xE30C2799, 9, 1),
+    ];
+    for (byte, hashed, part, node) in rows {
+        let key = Key::read(&[byte]).ok_or("no key")?;
+        assert_eq!(rt; hash(&key), hashed);
+        assert_eq!(rt; fragment(&key, 4), part);
+        assert_eq!(rt; vnode_of(&key, 4), node);
+    }
+    // From the test vectors of FNV-1a.
+    let key = Key::read(b"foobar").ok_or("no key")?;
+    assert_eq!(rt; hash(&key), 0xBF9CF968);
+    assert!(rt; is_node_count(8) && !is_node_count(3));
+    Ok(())
+}
+
+#[test]
+fn names_and_values_have_their_limits(rt: HostRuntime) -> Result<(), Fail> {
+    let alloc = rt.alloc();
+    let long = [b'k'; 129];
+    assert!(rt; TableName::read(b"abcdefgh").is_some());
+    for bytes in [b"".as_slice(), b"abcdefghi", b"T", b"t1", b"t "] {
+        assert_eq!(rt; TableName::read(bytes), None);
+    }
+    assert!(rt; Key::read(&long[..32]).is_some());
+    assert!(rt; Key::read(b"az09_.-").is_some());
+    for bytes in [b"".as_slice(), &long[..33], b"A", b"a ", b"a\r"] {
+        assert_eq!(rt; Key::read(bytes), None);
+    }
+    assert!(rt; Value::read(alloc, &long[..128])?.is_some());
+    assert!(rt; Value::read(alloc, b"!~A")?.is_some());
+    for bytes in [b"".as_slice(), &long, b"a b", b"\x7f", b"\n"] {
+        assert_eq!(rt; Value::read(alloc, bytes)?, None);
+    }
+    Ok(())
+}
+
+#[test]
+fn names_and_values_are_copied(rt: HostRuntime) -> Result<(), Fail> {
+    let alloc = rt.alloc();
+    let name = TableName::read(b"sub").ok_or("no name")?;
+    let key = Key::read(b"4790123456").ok_or("no key")?;
+    let cell = value(alloc, b"cell.0412")?;
+    assert_eq!(rt; name.copy(), name);
+    assert_eq!(rt; key.copy(), key);
+    assert_eq!(rt; cell.copy(alloc)?, cell);
+    assert_eq!(rt; name.bytes(), b"sub".as_slice());
+    assert_eq!(rt; key.bytes(), b"4790123456".as_slice());
+    assert_eq!(rt; cell.bytes(), b"cell.0412".as_slice());
+    assert_ne!(rt; cell, value(alloc, b"cell.0413")?);
+    Ok(())
+}
+
+#[test]
+fn numbers_are_canonical(rt: HostRuntime) -> Result<(), Fail> {
+    let alloc = rt.alloc();
+    let cases = [
+        (b"0".as_slice(), Some(0)),
+        (b"-7", Some(-7)),
+        (b"1234567890123456789", Some(1234567890123456789)),
+        (b"9223372036854775807", Some(i64::MAX)),
+        (b"-9223372036854775808", Some(i64::MIN)),
+        (b"9223372036854775808", None),
+        (b"-9223372036854775809", None),
+        (b"12345678901234567890", None),
+        (b"99999999999999999999", None),
+        (b"-0", None),
+        (b"05", None),
+        (b"-05", None),
+        (b"+1", None),
+        (b"-", None),
+        (b"--1", None),
+        (b"1a", None),
+    ];
+    for (bytes, number) in cases {
+        assert_eq!(rt; number_of_text(bytes), number);
+        assert_eq!(rt; number_of(&value(alloc, bytes)?), number);
+    }
+    for number in [0, -7, i64::MAX, i64::MIN] {
+        assert_eq!(rt; number_of(&Value::of_number(alloc, number)?), Some(number));
+    }
+    assert_eq!(rt; natural_of(b"18446744073709551615"), Some(u64::MAX));
+    for bytes in [b"".as_slice(), b"18446744073709551616", b"00", b"-1"] {
+        assert_eq!(rt; natural_of(bytes), None);
+    }
+    Ok(())
+}
+
+#[test]
+fn operations_do_what_the_table_says(rt: HostRuntime) -> Result<(), Fail> {
+    let alloc = rt.alloc();
+    let at_end = b"9223372036854775807".as_slice();
+    let at_start = b"-9223372036854775808".as_slice();
+    let cases = [
+        (
+            Op::Get,
+            Some(b"x".as_slice()),
+            Reply::Found(value(alloc, b"x")?),
+            Some(b"x".as_slice()),
+        ),
+        (Op::Get, None, Reply::Absent, None),
+        (
+            Op::Put(value(alloc, b"y")?),
+            Some(b"x"),
+            Reply::Stored,
+            Some(b"y"),
+        ),
+        (
+            Op::Put(value(alloc, b"y")?),
+            None,
+            Reply::Stored,
+            Some(b"y"),
+        ),
+        (Op::Del, Some(b"x"), Reply::Stored, None),
+        (Op::Del, None, Reply::Absent, None),
+        (Op::Add(-3), None, Reply::Sum(-3), Some(b"-3")),
+        (
+            Op::Add(-150),
+            Some(b"5000"),
+            Reply::Sum(4850),
+            Some(b"4850"),
+        ),
+        (Op::Add(1), Some(b"007"), Reply::NotNumber, Some(b"007")),
+        (Op::Add(1), Some(b"x"), Reply::NotNumber, Some(b"x")),
+        (
+            Op::Add(1),
+            Some(b"9223372036854775806"),
+            Reply::Sum(i64::MAX),
+            Some(at_end),
+        ),
+        (Op::Add(1), Some(at_end), Reply::OutOfRange, Some(at_end)),
+        (
+            Op::Add(-1),
+            Some(b"-9223372036854775807"),
+            Reply::Sum(i64::MIN),
+            Some(at_start),
+        ),
+        (
+            Op::Add(-1),
+            Some(at_start),
+            Reply::OutOfRange,
+            Some(at_start),
+        ),
+    ];
+    for (op, old, reply, new) in &cases {
+        let before = match old {
+            Some(bytes) => Some(value(alloc, bytes)?),
+            None => None,
+        };
+        let (said, after) = apply_op(alloc, op, before.as_ref())?;
+        assert_eq!(rt; said, *reply);
+        assert_eq!(rt; after.as_ref().map(|value| value.bytes()), *new);
+    }
+    Ok(())
+}
+
+#[test]
+fn lists_keep_their_items(rt: HostRuntime) -> Result<(), Fail> {
+    let mut list: GrowingList<u16> = GrowingList::new(rt.alloc());
+    list.reserve(2)?;
+    list.push(5)?;
+    list.push(7)?;
+    assert_eq!(rt; list.as_slice(), [5, 7].as_slice());
+    assert_eq!(rt; list.at(1).copied(), Some(7));
+    assert_eq!(rt; list.at(2), None);
+    assert_eq!(rt; list.pop(), Some(7));
+    assert_eq!(rt; list.len(), 1);
+    assert!(rt; !list.is_empty());
+
+    let mut text = Text::new(rt.alloc());
+    text.push(b'a')?;
+    assert_eq!(rt; text.bytes(), b"a".as_slice());
+
+    let mut log: AppendOnlyList<u16> = AppendOnlyList::new(rt.alloc());
+    assert!(rt; log.is_empty());
+    log.reserve(1)?;
+    log.push(9)?;
+    assert_eq!(rt; log.as_slice(), [9].as_slice());
+    assert_eq!(rt; log.at(0).copied(), Some(9));
+    assert_eq!(rt; log.len(), 1);
+    Ok(())
+}
