@@ -4,6 +4,7 @@ ghost use Rattle.cl_io.specs.Faults as faults;
 ghost use Rattle.cl_io.specs.Memory.{FailsNext, after_call, after_fault};
 
 use crate::Failed;
+use crate::count::one_more;
 use std::marker::Model;
 
 // Counts calls and faults. Contracts see it as a `CallsState`.
@@ -56,13 +57,6 @@ impl Calls {
         self.faults = one_more(self.faults);
         Failed
     }
-}
-
-// A count after one more; it stands still at its type's end.
-fn one_more(count: u64) -> u64
-    ensures { result ≡ faults.one_more count }
-{
-    count.saturating_add(1)
 }
 
 // Whether a number is listed.

@@ -2,12 +2,16 @@
 #![tactic(auto)]
 
 mod calls;
+mod count;
 mod failed;
 mod gate;
 mod mem_sink;
 mod mem_source;
 mod sink;
 mod source;
+mod std_sink;
+mod std_source;
+mod writing;
 
 pub use failed::Failed;
 pub use gate::{Gate, NoGate};
@@ -15,3 +19,6 @@ pub use mem_sink::MemSink;
 pub use mem_source::MemSource;
 pub use sink::Sink;
 pub use source::Source;
+pub use std_sink::StdSink;
+pub use std_source::StdSource;
+pub use writing::write_all;
