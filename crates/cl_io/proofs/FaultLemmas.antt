@@ -1,6 +1,6 @@
 -- When a count of faults rose, over several calls.
-use Rattle.std.proofs.Common.{◌≡◌, ℕ, ◌<◌, ◌≤◌, ◌⊎◌, inl, inr, arith}
-use Rattle.cl_io.specs.Faults.{Rose, one_more, last_count}
+use Rattle.std.proofs.Common.{ℕ, ◌≤◌, arith}
+use Rattle.cl_io.specs.Faults.{Rose, one_more}
 
 -- a rise in a call is a rise in any run of calls that has it, since no call lowers the count
 pub Rose-within : (first before after last : ℕ) → first ≤ before → before ≤ after → Rose before after → after ≤ last → Rose first last

@@ -1,34 +1,28 @@
 //! A writer of std as a sink.
 ghost use Rattle.std.specs.Prelude.{◌≡◌, ◌<◌, ◌≤◌, IfOk, OnOk, OnErr, None, length};
+ghost use Rattle.std.specs.Io.KnownBytes.{Keeps, WriteAppends};
 ghost use Rattle.cl_io.specs.Faults as faults;
+ghost use Rattle.cl_io.specs.Std.{sink_faults, writer};
 
 use crate::count::one_more;
 use crate::{Failed, Sink};
 use std::io::{Stdout, Write};
-use std::marker::Model;
 
 /// A writer of std as a sink; standard output, if nothing else is said. It tells no bytes, and keeps
 /// none: what it takes it hands on at once.
 ///
-/// Contracts see its count of faults.
+/// Contracts see its writer and its count of faults.
 #[derive(Debug, Drop)]
 pub struct StdSink<W = Stdout> {
     output: W,
     errors: u64,
 }
 
-impl<W> Model for StdSink<W> {
-    ghost use Rattle.std.specs.Prelude.{ℕ};
-
-    ghost Value = { ℕ };
-
-    ghost view = { λ s. s.errors };
-}
-
 impl<W> StdSink<W> {
     /// A sink that writes there, with no fault so far.
     pub fn new(output: W) -> Self
-        ensures { result ≡ 0 }
+        ensures writer { writer result ≡ output }
+        ensures faults { sink_faults result ≡ 0 }
     {
         StdSink { output, errors: 0 }
     }
@@ -37,17 +31,19 @@ impl<W> StdSink<W> {
 impl<W: Write> Sink for StdSink<W> {
     ghost written = { λ _. None };
 
-    ghost faults = { λ count. count };
+    ghost faults = { sink_faults };
 
     /// One call of the writer's `write`. An error is a fault, and so is that it takes nothing of a
     /// piece that is not empty.
     fn write(&mut self, piece: &[u8]) -> Result<usize, Failed>
         ensures within { IfOk result (λ n. n ≤ length piece.now) }
-        ensures none { IfOk result (λ n. n ≡ 0 → 0 < length piece.now → self.new ≡ faults.one_more self.old) }
-        ensures steady { IfOk result (λ n. 0 < n → self.new ≡ self.old) }
-        ensures empty { OnOk result (length piece.now ≡ 0 → self.new ≡ self.old) }
-        ensures failed { OnErr result (self.new ≡ faults.one_more self.old) }
-        ensures counted { self.old ≤ self.new }
+        ensures bytes { WriteAppends (W.contents (writer self.old)) (W.contents (writer self.new)) result piece.now }
+        ensures none { IfOk result (λ n. n ≡ 0 → 0 < length piece.now
+            → sink_faults self.new ≡ faults.one_more (sink_faults self.old)) }
+        ensures steady { IfOk result (λ n. 0 < n → sink_faults self.new ≡ sink_faults self.old) }
+        ensures empty { OnOk result (length piece.now ≡ 0 → sink_faults self.new ≡ sink_faults self.old) }
+        ensures failed { OnErr result (sink_faults self.new ≡ faults.one_more (sink_faults self.old)) }
+        ensures counted { sink_faults self.old ≤ sink_faults self.new }
     {
         let result = self.output.write(piece);
         let is_fault = match result {
@@ -62,9 +58,10 @@ impl<W: Write> Sink for StdSink<W> {
 
     /// One call of the writer's `flush`. An error is a fault.
     fn flush(&mut self) -> Result<(), Failed>
-        ensures steady { OnOk result (self.new ≡ self.old) }
-        ensures failed { OnErr result (self.new ≡ faults.one_more self.old) }
-        ensures counted { self.old ≤ self.new }
+        ensures bytes { Keeps (W.contents (writer self.old)) (W.contents (writer self.new)) }
+        ensures steady { OnOk result (sink_faults self.new ≡ sink_faults self.old) }
+        ensures failed { OnErr result (sink_faults self.new ≡ faults.one_more (sink_faults self.old)) }
+        ensures counted { sink_faults self.old ≤ sink_faults self.new }
     {
         match self.output.flush() {
             Ok(()) => Ok(()),

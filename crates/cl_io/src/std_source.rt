@@ -1,33 +1,27 @@
 //! A reader of std as a source.
 ghost use Rattle.std.specs.Prelude.{◌≡◌, ◌≤◌, IfOk, OnOk, OnErr, None, length};
+ghost use Rattle.std.specs.Io.KnownBytes.{ReadConsumes};
 ghost use Rattle.cl_io.specs.Faults as faults;
+ghost use Rattle.cl_io.specs.Std.{reader, source_faults};
 
 use crate::count::one_more;
 use crate::{Failed, Source};
 use std::io::{Read, Stdin};
-use std::marker::Model;
 
 /// A reader of std as a source; standard input, if nothing else is said. It tells no bytes.
 ///
-/// Contracts see its count of faults.
+/// Contracts see its reader and its count of faults.
 #[derive(Debug, Drop)]
 pub struct StdSource<R = Stdin> {
     input: R,
     errors: u64,
 }
 
-impl<R> Model for StdSource<R> {
-    ghost use Rattle.std.specs.Prelude.{ℕ};
-
-    ghost Value = { ℕ };
-
-    ghost view = { λ s. s.errors };
-}
-
 impl<R> StdSource<R> {
     /// A source that reads from here, with no fault so far.
     pub fn new(input: R) -> Self
-        ensures { result ≡ 0 }
+        ensures reader { reader result ≡ input }
+        ensures faults { source_faults result ≡ 0 }
     {
         StdSource { input, errors: 0 }
     }
@@ -36,15 +30,16 @@ impl<R> StdSource<R> {
 impl<R: Read> Source for StdSource<R> {
     ghost left = { λ _. None };
 
-    ghost faults = { λ count. count };
+    ghost faults = { source_faults };
 
-    /// One call of the reader's `read`. Each error is a fault, and the count says so.
+    /// One call of the reader's `read`, whose bytes it hands on. Each error is a fault.
     fn read(&mut self, buf: &mut [u8]) -> Result<usize, Failed>
         ensures within { IfOk result (λ n. n ≤ length buf.old) }
         ensures size { length buf.new ≡ length buf.old }
-        ensures steady { OnOk result (self.new ≡ self.old) }
-        ensures failed { OnErr result (self.new ≡ faults.one_more self.old) }
-        ensures counted { self.old ≤ self.new }
+        ensures bytes { ReadConsumes (R.remaining (reader self.old)) (R.remaining (reader self.new)) result buf.new }
+        ensures steady { OnOk result (source_faults self.new ≡ source_faults self.old) }
+        ensures failed { OnErr result (source_faults self.new ≡ faults.one_more (source_faults self.old)) }
+        ensures counted { source_faults self.old ≤ source_faults self.new }
     {
         match self.input.read(buf) {
             Ok(count) => Ok(count),
