@@ -1,4 +1,6 @@
 /// Is called round each handling of an actor, outside the turn. Nothing is said of what it does.
+///
+/// An actor is the number of a node, or 16 for the front.
 pub trait Gate {
     /// An actor begins a handling.
     fn enter(&self, actor: u32);

@@ -50,6 +50,7 @@ impl Sink for MemSink {
     ghost faults = { λ s. s.calls.faults };
 
     /// Fails where the number of the call is listed or memory is wanting, and else takes the whole piece.
+    /// A flush is a call too, and takes a number.
     fn write(&mut self, piece: &[u8]) -> Result<usize, Failed>
         ensures failing { FailsNext self.old.calls → IsErr result }
         ensures count { IfOk result (λ n. n ≡ length piece.now) }

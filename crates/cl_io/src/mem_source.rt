@@ -47,7 +47,7 @@ impl Source for MemSource {
     ghost faults = { λ s. s.calls.faults };
 
     /// Fails where the number of the call is listed, and else fills as much of the buffer as there
-    /// are bytes.
+    /// are bytes. It takes time for the bytes that it gives and the calls that are listed.
     fn read(&mut self, buf: &mut [u8]) -> Result<usize, Failed>
         ensures failing { IsErr result ↔ FailsNext self.old.calls }
         ensures count { IfOk result (λ n. n ≡ min (length buf.old) (length self.old.rest)) }
