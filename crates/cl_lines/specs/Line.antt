@@ -15,13 +15,14 @@ use Rattle.cl_lines.specs.declared.line.Unread.TheVariants.{Fault, NoMemory}
 use Rattle.cl_lines.specs.Words.{words}
 
 -- the session that a word names
-abbrev pub session_of : List ℕ → Option ℕ
-session_of word = if bytes_eq word (codes "1") then Some 1 else None
+abbrev pub session_of : List ℕ → Result ℕ LineFault
+session_of word = if bytes_eq word (codes "1") then Ok 1 else Err Words
 
 -- the write of the value that a word is
 abbrev pub put_of : List ℕ → Result Op LineFault
 put_of word = if is_value word then Ok (Put word) else Err Words
 
+-- the operation, where it was read, on this table and key
 abbrev pub work : List ℕ → List ℕ → Result Op LineFault → Result Command LineFault
 work table key (Ok op) = Ok (Work table key op)
 work table key (Err fault) = Err fault
@@ -42,10 +43,10 @@ command_of (verb ∷ table ∷ key ∷ value ∷ []) =
 command_of _ = Err Words
 
 -- the command in its session
-abbrev pub in_session : Option ℕ → Result Command LineFault → Result Line LineFault
-in_session (Some session) (Ok command) = Ok (Client session command)
-in_session (Some session) (Err fault) = Err fault
-in_session None command = Err Words
+abbrev pub in_session : Result ℕ LineFault → Result Command LineFault → Result Line LineFault
+in_session (Ok session) (Ok command) = Ok (Client session command)
+in_session (Ok session) (Err fault) = Err fault
+in_session (Err fault) command = Err fault
 
 -- the line of these words
 abbrev pub line_of_words : List (List ℕ) → Result Line LineFault
@@ -56,6 +57,7 @@ line_of_words (session ∷ others) = in_session (session_of session) (command_of
 unfoldable pub line_of : List ℕ → Result Line LineFault
 line_of bytes = if nat_lt 256 (length bytes) then Err Words else line_of_words (words bytes)
 
+-- the session and the command of a reading that is a client line
 abbrev pub client_part : Result Line LineFault → Option (ℕ × Command)
 client_part (Ok (Client session command)) = Some (session, command)
 client_part (Err fault) = None
@@ -64,6 +66,7 @@ client_part (Err fault) = None
 abbrev pub client_of : List ℕ → Option (ℕ × Command)
 client_of bytes = client_part (line_of bytes)
 
+-- the fault of a reading that is one
 abbrev pub fault_part : Result Line LineFault → Option LineFault
 fault_part (Ok line) = None
 fault_part (Err fault) = Some fault

@@ -3,7 +3,6 @@ ghost use Rattle.std.specs.Prelude.{◌≡◌};
 ghost use Rattle.cl_lines.specs.declared.line.Unread.TheVariants as answers;
 
 use cl_types::{Command, NoMemory};
-use std::alloc::{AllocError, AllocFailed};
 
 /// The most bytes of a line, without its newline.
 pub const LINE_MAX: usize = 256;
@@ -41,22 +40,6 @@ impl From<NoMemory> for Unread {
     ghost from_gives = { λ _ unread. unread ≡ answers.NoMemory };
 
     fn from(_error: NoMemory) -> Unread {
-        Unread::NoMemory
-    }
-}
-
-impl From<AllocError> for Unread {
-    ghost from_gives = { λ _ unread. unread ≡ answers.NoMemory };
-
-    fn from(_error: AllocError) -> Unread {
-        Unread::NoMemory
-    }
-}
-
-impl<T: Drop> From<AllocFailed<T>> for Unread {
-    ghost from_gives = { λ _ unread. unread ≡ answers.NoMemory };
-
-    fn from(_error: AllocFailed<T>) -> Unread {
         Unread::NoMemory
     }
 }
