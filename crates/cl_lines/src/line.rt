@@ -8,7 +8,7 @@ use cl_types::{Command, NoMemory};
 pub const LINE_MAX: usize = 256;
 
 /// A line that is well formed.
-#[derive(Debug, Drop)]
+#[derive(Debug, PartialEq, Eq, Drop)]
 pub enum Line {
     /// A command in the session of that number.
     Client(u32, Command),

@@ -3,7 +3,7 @@ use crate::LineFault;
 use cl_types::Outcome;
 
 /// One printed line.
-#[derive(Debug, Drop)]
+#[derive(Debug, PartialEq, Eq, Drop)]
 pub enum Out {
     /// The outcome of a session's command.
     Answer(u32, Outcome),
