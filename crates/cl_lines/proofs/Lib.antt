@@ -1,0 +1,6 @@
+pub mod Cuts
+pub mod Bytes
+pub mod Forms
+pub mod Spellings
+pub mod Printed
+pub mod Readings

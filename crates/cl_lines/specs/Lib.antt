@@ -1,0 +1,5 @@
+pub mod Words
+pub mod Line
+pub mod Spelling
+pub mod Out
+pub mod Laws

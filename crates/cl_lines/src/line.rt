@@ -1,0 +1,45 @@
+//! What a line is.
+ghost use Rattle.std.specs.Prelude.{◌≡◌};
+ghost use Rattle.cl_lines.specs.declared.line.Unread.TheVariants as answers;
+
+use cl_types::{Command, NoMemory};
+
+/// The most bytes of a line, without its newline.
+pub const LINE_MAX: usize = 256;
+
+/// A line that is well formed.
+#[derive(Debug, PartialEq, Eq, Drop)]
+pub enum Line {
+    /// A command in the session of that number.
+    Client(u32, Command),
+}
+
+/// Why a line is not well formed.
+#[derive(Clone, Copy, Debug, PartialEq, Eq)]
+pub enum LineFault {
+    /// The line is too long, or its words are no form of a line.
+    Words,
+}
+
+/// Why a line was not read.
+#[derive(Clone, Copy, Debug, PartialEq, Eq)]
+pub enum Unread {
+    Fault(LineFault),
+    NoMemory,
+}
+
+impl From<LineFault> for Unread {
+    ghost from_gives = { λ fault unread. unread ≡ answers.Fault fault };
+
+    fn from(fault: LineFault) -> Unread {
+        Unread::Fault(fault)
+    }
+}
+
+impl From<NoMemory> for Unread {
+    ghost from_gives = { λ _ unread. unread ≡ answers.NoMemory };
+
+    fn from(_error: NoMemory) -> Unread {
+        Unread::NoMemory
+    }
+}
