@@ -1,0 +1,12 @@
+pub mod Bound
+pub mod Counts
+pub mod Effects
+pub mod Lawful
+pub mod Lists
+pub mod Members
+pub mod Repairs
+pub mod Searches
+pub mod Sites
+pub mod Stays
+pub mod Steps
+pub mod Verdict

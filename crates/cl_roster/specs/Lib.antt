@@ -1,0 +1,7 @@
+pub mod Kept
+pub mod Laws
+pub mod Members
+pub mod Roles
+pub mod Roster
+pub mod Standing
+pub mod View

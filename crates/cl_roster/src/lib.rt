@@ -1,0 +1,13 @@
+//! The roster: which nodes have stopped, and who is primary and who is standby of each virtual node.
+#![tactic(auto)]
+
+mod entry;
+mod laws;
+mod roles;
+mod roster;
+mod standing;
+
+pub use entry::RosterEntry;
+pub use laws::{lawful_rosters, members_are_sound, one_entry_more, what_stays};
+pub use roles::Roles;
+pub use roster::Roster;
