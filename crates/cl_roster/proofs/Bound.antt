@@ -1,6 +1,6 @@
 -- A lawful roster is short: each node stops once, and each repair makes good for what a stop took.
 use Rattle.std.proofs.Common.{◌≡◌, ℕ, ◌+◌, ◌*◌, ◌<◌, ◌≤◌, ◌==◌, Bool, false, ◌||◌, not, List, [], ◌∷◌, ◌++◌, length, Some, is_none, refl, sym, ap, ◌∙◌, arith}
-use Rattle.std.proofs.lemmas.Bool.{eq-eqb, ne_eqb, cond-true, cond-false, not_from_true, not_from_false}
+use Rattle.std.proofs.lemmas.Bool.{eq-eqb, ne_eqb, cond-true, cond-false, not-true, not_from_true, not_from_false}
 use Rattle.std.proofs.lemmas.List.{length_push}
 use Rattle.cl_roster.specs.declared.entry.RosterEntry.{RosterEntry}
 use Rattle.cl_roster.specs.declared.entry.RosterEntry.TheVariants.{Stopped, Repaired}
@@ -58,7 +58,7 @@ accounts-push : (nodes spares : ℕ) (entries : List RosterEntry) (entry : Roste
     IsLawfulEntry nodes spares entries entry → Accounts nodes entries → Accounts nodes (entries ++ entry ∷ [])
 accounts-push nodes spares entries (Stopped n) size lawful accounts =
     let admitted = IsAdmitted-from nodes spares entries n lawful in
-    let one_less = living_count-stopped entries n (omega arith) admitted.living in
+    let one_less = living_count-stopped entries n (omega arith) (not-true (has_stopped entries n) admitted.living) in
     let lone = passing-le (is_lone nodes (entries ++ Stopped n ∷ [])) 0 nodes in
     let longer = length_push entries (Stopped n) in
     record { few = omega arith }

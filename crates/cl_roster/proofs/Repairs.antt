@@ -1,6 +1,6 @@
 -- Which repair may come next, and the spare that is picked for it.
-use Rattle.std.proofs.Common.{◌≡◌, ◌≢◌, ℕ, ◌+◌, ◌<◌, ◌≤◌, ◌==◌, true, false, ◌||◌, ◌&&◌, cond, not, List, [], ◌∷◌, ◌++◌, Option, Some, None, Result, Ok, Err, ◌⊎◌, inl, inr, refl, sym, ap, ◌∙◌, arith}
-use Rattle.std.proofs.lemmas.Bool.{eq-eqb, ne_eqb, cases_lt, cases_Bool, and_parts, both_ways, not-true, or_from}
+use Rattle.std.proofs.Common.{◌≡◌, ◌≢◌, ℕ, ◌+◌, ◌<◌, ◌≤◌, ◌==◌, true, false, ◌||◌, ◌&&◌, cond, not, List, [], ◌∷◌, ◌++◌, Option, Some, None, Result, Ok, Err, ◌⊎◌, inl, inr, refl, sym, ap, ◌∙◌, arith, Bool}
+use Rattle.std.proofs.lemmas.Bool.{eq-eqb, ne_eqb, cases_lt, cases_Bool, and_parts, and_from, both_ways, not-true, or_from, not_from_false}
 use Rattle.std.proofs.lemmas.Bool.Decides.{nat_tests}
 use Rattle.cl_types.specs.declared.answers.StopFault.{StopFault}
 use Rattle.cl_roster.specs.declared.entry.RosterEntry.{RosterEntry}
@@ -8,29 +8,51 @@ use Rattle.cl_roster.specs.declared.entry.RosterEntry.TheVariants.{Stopped, Repa
 use Rattle.cl_roster.specs.declared.roles.Roles.{Roles}
 use Rattle.cl_roster.specs.Roles.{after_stop, is_member, is_only_member, roles_after}
 use Rattle.cl_roster.specs.Roster.{site, is_stop_of, has_stopped, is_living, stop_verdict, IsLawfulRepair, IsLawfulEntry, spare_of}
-use Rattle.cl_roster.proofs.Searches.{find-some}
+use Rattle.cl_roster.specs.Verdict.{IsSpareFor, SpareMeans}
+use Rattle.cl_roster.proofs.Searches.{find-none, find-some}
 use Rattle.cl_roster.proofs.Steps.{or-false, roles_after-push, has_stopped-push}
 use Rattle.cl_roster.proofs.Verdict.{IsAdmitted-from}
 
--- the spare that is picked: it lives, is on the other site, and no lower spare is so
-pub record IsPicked (nodes spares : ℕ) (entries : List RosterEntry) (v n : ℕ) : Type 0 where
-  pub spare : nodes ≤ n
-  pub known : n < nodes + spares
-  pub living : is_living entries n ≡ true
-  pub apart : site n ≢ site (roles_after nodes entries v).primary
+abbrev serves : ℕ → List RosterEntry → ℕ → ℕ → Bool
+serves nodes entries v n = is_living entries n && not (site n == site (roles_after nodes entries v).primary)
 
-pub IsPicked-spare_of : (nodes spares : ℕ) (entries : List RosterEntry) (v n : ℕ) →
-    spare_of nodes spares entries v ≡ Some n → IsPicked nodes spares entries v n
-IsPicked-spare_of nodes spares entries v n e =
+spare_from : (nodes spares : ℕ) (entries : List RosterEntry) (v n : ℕ) → nodes ≤ n → n < nodes + spares →
+    serves nodes entries v n ≡ true → IsSpareFor nodes spares entries v n
+spare_from nodes spares entries v n spare known passes =
     let primary = (roles_after nodes entries v).primary in
-    let found = find-some (λ k. is_living entries k && not (site k == site primary)) nodes spares n e in
-    let parts = and_parts (is_living entries n) (not (site n == site primary)) found.passes in
+    let parts = and_parts (is_living entries n) (not (site n == site primary)) passes in
     record {
-      spare = found.from_start;
-      known = found.in_range;
+      spare = spare;
+      known = known;
       living = parts.0;
-      apart = λ same. both_ways (site n == site primary) (not-true (site n == site primary) parts.1) (eq-eqb (site n) (site primary) same);
+      apart = λ same. both_ways (site n == site primary) (not-true (site n == site primary) parts.1) (eq-eqb (site n) (site primary) same)
     }
+
+serves_from : (nodes spares : ℕ) (entries : List RosterEntry) (v n : ℕ) → IsSpareFor nodes spares entries v n →
+    serves nodes entries v n ≡ true
+serves_from nodes spares entries v n spare =
+    let primary = (roles_after nodes entries v).primary in
+    and_from (is_living entries n) (not (site n == site primary)) spare.living
+      (not_from_false (site n == site primary) (ne_eqb (site n) (site primary) spare.apart))
+
+means_spare : (nodes spares : ℕ) (entries : List RosterEntry) (v : ℕ) (spare : Option ℕ) →
+    spare_of nodes spares entries v ≡ spare → SpareMeans nodes spares entries v spare
+means_spare nodes spares entries v None e = λ n is.
+    (let none = find-none (serves nodes entries v) nodes spares e in
+    both_ways (serves nodes entries v n) (none.fails n is.spare is.known) (serves_from nodes spares entries v n is))
+means_spare nodes spares entries v (Some n) e =
+    let first = find-some (serves nodes entries v) nodes spares n e in
+    (spare_from nodes spares entries v n first.from_start first.in_range first.passes, λ m below is.
+      both_ways (serves nodes entries v m) (first.first m is.spare below) (serves_from nodes spares entries v m is))
+
+-- the search for a spare finds the lowest, or there is none
+pub SpareMeans-spare_of : (nodes spares : ℕ) (entries : List RosterEntry) (v : ℕ) →
+    SpareMeans nodes spares entries v (spare_of nodes spares entries v)
+SpareMeans-spare_of nodes spares entries v = means_spare nodes spares entries v (spare_of nodes spares entries v) refl
+
+pub IsSpareFor-spare_of : (nodes spares : ℕ) (entries : List RosterEntry) (v n : ℕ) →
+    spare_of nodes spares entries v ≡ Some n → IsSpareFor nodes spares entries v n
+IsSpareFor-spare_of nodes spares entries v n e = (means_spare nodes spares entries v (Some n) e).0
 
 lone_member : (primary : ℕ) (standby : Option ℕ) (n : ℕ) → standby ≡ None → site n ≢ site primary →
     is_member (record { primary = primary; standby = standby }) n ≡ false
@@ -42,7 +64,7 @@ pub IsLawfulRepair-spare_of : (nodes spares : ℕ) (entries : List RosterEntry) 
     (roles_after nodes entries v).standby ≡ None → spare_of nodes spares entries v ≡ Some n →
     IsLawfulRepair nodes spares entries v n
 IsLawfulRepair-spare_of nodes spares entries v n below lone e =
-    let picked = IsPicked-spare_of nodes spares entries v n e in
+    let picked = IsSpareFor-spare_of nodes spares entries v n e in
     let roles = roles_after nodes entries v in
     record {
       virtual_node = below;

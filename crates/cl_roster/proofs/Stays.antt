@@ -1,15 +1,15 @@
 -- What stays along a roster: a primary until it stops, and a stop for ever.
-use Rattle.std.proofs.Common.{◌≡◌, ℕ, ◌<◌, ◌≤◌, ◌==◌, true, false, ◌||◌, length, take, List, [], ◌∷◌, ◌++◌, Option, Some, None, ◌+◌, inl, inr, refl, sym, ap, ◌∙◌, subst, arith}
-use Rattle.std.proofs.lemmas.Bool.{false_from_ne_true, both_ways, not-true, or_parts, or_left, cond_both, or_cases, eqb-true, false≢true}
+use Rattle.std.proofs.Common.{◌≡◌, ℕ, ◌<◌, ◌≤◌, ◌==◌, true, false, ◌||◌, length, take, List, [], ◌∷◌, ◌++◌, Option, Some, None, ◌+◌, inl, inr, refl, sym, ap, ◌∙◌, subst, arith, Bool, ◌≢◌}
+use Rattle.std.proofs.lemmas.Bool.{false_from_ne_true, both_ways, not-true, or_parts, or_left, cond_both, or_cases, eqb-true, eqb-false, false≢true}
 use Rattle.std.proofs.lemmas.Bool.Decides.{nat_tests}
 use Rattle.std.proofs.lemmas.List.{take-append-le}
 use Rattle.std.proofs.lemmas.List.Folds.{list_any-append}
 use Rattle.cl_roster.specs.declared.entry.RosterEntry.{RosterEntry}
 use Rattle.cl_roster.specs.declared.entry.RosterEntry.TheVariants.{Stopped, Repaired}
 use Rattle.cl_roster.specs.declared.roles.Roles.{Roles}
-use Rattle.cl_roster.specs.Roles.{after_stop, is_member, roles_after}
+use Rattle.cl_roster.specs.Roles.{after_stop, is_member, roles_after, after_entry}
 use Rattle.cl_roster.specs.Roster.{is_stop_of, has_stopped, IsClusterSize, IsLawfulEntry, IsLawfulRoster}
-use Rattle.cl_roster.proofs.Lawful.{along}
+use Rattle.cl_roster.proofs.Lawful.{along, along_from}
 use Rattle.cl_roster.proofs.Lists.{kept_along}
 use Rattle.cl_roster.proofs.Members.{AreSoundMembers-lawful}
 use Rattle.cl_roster.proofs.Steps.{roles_after-push, has_stopped-push}
@@ -92,3 +92,42 @@ has_stopped-known nodes spares entries n lawful =
       | inr now ↦ known_step xs entry nodes spares n next now
     ])
     (λ stopped. absurd (false≢true stopped)) entries lawful
+
+member_after_stop : (n primary : ℕ) (standby : Option ℕ) (m : ℕ) →
+    let roles : Roles = record { primary = primary; standby = standby } in
+    m ≢ n → is_member roles m ≡ true → is_member (after_stop n roles) m ≡ true
+member_after_stop n primary None m apart member = grind (arith, nat_tests)
+member_after_stop n primary (Some s) m apart member = grind (arith, nat_tests)
+
+member_with_standby : (primary : ℕ) (standby : Option ℕ) (n m : ℕ) → standby ≡ None →
+    is_member (record { primary = primary; standby = standby }) m ≡ true →
+    is_member (record { primary = primary; standby = Some n }) m ≡ true
+member_with_standby primary None n m lone member = or_left (primary == m) (n == m) (is_primary (primary == m) member) where
+  is_primary : (b : Bool) → (b || false) ≡ true → b ≡ true
+  is_primary true e = refl
+  is_primary false e = e
+member_with_standby primary (Some s) n m lone member = cc
+
+member_step : (nodes spares : ℕ) (entries : List RosterEntry) (entry : RosterEntry) (v m : ℕ) →
+    IsLawfulEntry nodes spares entries entry → is_stop_of m entry ≡ false → is_member (roles_after nodes entries v) m ≡ true →
+    is_member (after_entry v (roles_after nodes entries v) entry) m ≡ true
+member_step nodes spares entries (Stopped n) v m lawful lives member =
+    let roles = roles_after nodes entries v in
+    member_after_stop n roles.primary roles.standby m (λ same. eqb-false n m lives (sym same)) member
+member_step nodes spares entries (Repaired w n) v m lawful lives member =
+    let roles = roles_after nodes entries v in
+    cond_both (w == v) (record { primary = roles.primary; standby = Some n }) roles (λ (r : Roles). is_member r m ≡ true)
+    (λ same. member_with_standby roles.primary roles.standby n m
+      (subst (λ (u : ℕ). (roles_after nodes entries u).standby ≡ None) (eqb-true w v same) lawful.lone) member)
+    (λ other. member)
+
+-- a member stays a member until it stops
+pub member_stays : (nodes spares : ℕ) (entries more : List RosterEntry) (v m : ℕ) → IsLawfulRoster nodes spares (entries ++ more) →
+    is_member (roles_after nodes entries v) m ≡ true → has_stopped (entries ++ more) m ≡ false →
+    is_member (roles_after nodes (entries ++ more) v) m ≡ true
+member_stays nodes spares entries more v m lawful member =
+    along_from nodes spares (λ xs. has_stopped xs m ≡ false → is_member (roles_after nodes xs v) m ≡ true)
+    (λ xs entry _ next keeps lives.
+      (let parts = or_parts (has_stopped xs m) (is_stop_of m entry) (sym (has_stopped-push xs entry m) ∙ lives) in
+      ap (λ (r : Roles). is_member r m) (roles_after-push nodes xs entry v) ∙ member_step nodes spares xs entry v m next parts.1 (keeps parts.0)))
+    entries more lawful (λ _. member)

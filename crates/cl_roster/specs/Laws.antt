@@ -5,6 +5,7 @@ use Rattle.cl_roster.specs.declared.entry.RosterEntry.TheVariants.{Stopped, Repa
 use Rattle.cl_roster.specs.declared.roles.Roles.{Roles}
 use Rattle.cl_roster.specs.Roles.{roles_after, after_entry, is_member}
 use Rattle.cl_roster.specs.Roster.{is_living, has_stopped, stop_verdict, spare_of, IsClusterSize, IsLawfulEntry, IsLawfulRoster}
+use Rattle.cl_roster.specs.Verdict.{VerdictMeans, SpareMeans}
 use Rattle.cl_roster.specs.Members.{AreSoundMembers, AreOnTwoSites, RepairsCrossSites}
 
 -- the roles after one entry more are one step on
@@ -71,6 +72,12 @@ PrimaryStays = (nodes : ℕ) (entries more : List RosterEntry) (v : ℕ) →
     is_living (entries ++ more) (roles_after nodes entries v).primary ≡ true →
     (roles_after nodes (entries ++ more) v).primary ≡ (roles_after nodes entries v).primary
 
+-- a member stays a member until it stops
+abbrev pub MemberStays : Type 0
+MemberStays = (nodes spares : ℕ) (entries more : List RosterEntry) (v n : ℕ) → IsLawfulRoster nodes spares (entries ++ more) →
+    is_member (roles_after nodes entries v) n ≡ true → is_living (entries ++ more) n ≡ true →
+    is_member (roles_after nodes (entries ++ more) v) n ≡ true
+
 -- a node that has stopped is no member of any virtual node, whatever follows
 abbrev pub StoppedNeverReturns : Type 0
 StoppedNeverReturns = (nodes spares : ℕ) (entries more : List RosterEntry) (n v : ℕ) → IsClusterSize nodes spares → v < nodes →
@@ -81,6 +88,16 @@ StoppedNeverReturns = (nodes spares : ℕ) (entries more : List RosterEntry) (n 
 abbrev pub PrefixDecidesRoles : Type 0
 PrefixDecidesRoles = (nodes : ℕ) (noted rest : List RosterEntry) (k v : ℕ) → k ≤ length noted →
     roles_after nodes (take k (noted ++ rest)) v ≡ roles_after nodes (take k noted) v
+
+-- each verdict on a stop means what it says
+abbrev pub VerdictsMean : Type 0
+VerdictsMean = (nodes spares : ℕ) (entries : List RosterEntry) (n : ℕ) →
+    VerdictMeans nodes spares entries n (stop_verdict nodes spares entries n)
+
+-- the search for a spare finds the lowest living one on the other site, or there is none
+abbrev pub SparesMean : Type 0
+SparesMean = (nodes spares : ℕ) (entries : List RosterEntry) (v : ℕ) →
+    SpareMeans nodes spares entries v (spare_of nodes spares entries v)
 
 -- the spare that is picked for a lone virtual node may become its standby
 abbrev pub PickedSpareIsLawful : Type 0

@@ -4,4 +4,5 @@ pub mod Members
 pub mod Roles
 pub mod Roster
 pub mod Standing
+pub mod Verdict
 pub mod View

@@ -8,6 +8,6 @@ mod roster;
 mod standing;
 
 pub use entry::RosterEntry;
-pub use laws::{lawful_rosters, members_are_sound, one_entry_more, what_stays};
+pub use laws::{lawful_rosters, members_are_sound, one_entry_more, verdicts_and_spares, what_stays};
 pub use roles::Roles;
 pub use roster::Roster;

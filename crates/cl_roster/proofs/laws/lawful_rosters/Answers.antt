@@ -1,6 +1,5 @@
 use Rattle.cl_roster.proofs.Bound.{length-lawful}
 use Rattle.cl_roster.proofs.Lawful.{IsLawfulRoster-none, IsLawfulRoster-push, IsLawfulRoster-prefix}
-use Rattle.cl_roster.proofs.Repairs.{IsLawfulRepair-spare_of}
 use Rattle.cl_roster.proofs.laws.lawful_rosters.Goals as goal
 
 pub returns : goal.returns
@@ -9,5 +8,4 @@ returns c = record {
   push = IsLawfulRoster-push;
   prefix = IsLawfulRoster-prefix;
   short = length-lawful;
-  spare = IsLawfulRepair-spare_of;
 }
