@@ -25,7 +25,7 @@ spare_from nodes spares entries v n spare known passes =
       spare = spare;
       known = known;
       living = parts.0;
-      apart = λ same. both_ways (site n == site primary) (not-true (site n == site primary) parts.1) (eq-eqb (site n) (site primary) same)
+      apart = λ same. both_ways (site n == site primary) (not-true (site n == site primary) parts.1) (eq-eqb (site n) (site primary) same);
     }
 
 serves_from : (nodes spares : ℕ) (entries : List RosterEntry) (v n : ℕ) → IsSpareFor nodes spares entries v n →
@@ -33,7 +33,7 @@ serves_from : (nodes spares : ℕ) (entries : List RosterEntry) (v n : ℕ) → 
 serves_from nodes spares entries v n spare =
     let primary = (roles_after nodes entries v).primary in
     and_from (is_living entries n) (not (site n == site primary)) spare.living
-      (not_from_false (site n == site primary) (ne_eqb (site n) (site primary) spare.apart))
+    (not_from_false (site n == site primary) (ne_eqb (site n) (site primary) spare.apart))
 
 means_spare : (nodes spares : ℕ) (entries : List RosterEntry) (v : ℕ) (spare : Option ℕ) →
     spare_of nodes spares entries v ≡ spare → SpareMeans nodes spares entries v spare
@@ -41,9 +41,11 @@ means_spare nodes spares entries v None e = λ n is.
     (let none = find-none (serves nodes entries v) nodes spares e in
     both_ways (serves nodes entries v n) (none.fails n is.spare is.known) (serves_from nodes spares entries v n is))
 means_spare nodes spares entries v (Some n) e =
-    let first = find-some (serves nodes entries v) nodes spares n e in
-    (spare_from nodes spares entries v n first.from_start first.in_range first.passes, λ m below is.
-      both_ways (serves nodes entries v m) (first.first m is.spare below) (serves_from nodes spares entries v m is))
+    let first = find-some (serves nodes entries v) nodes spares n e in (
+      spare_from nodes spares entries v n first.from_start first.in_range first.passes,
+      λ m below is.
+          both_ways (serves nodes entries v m) (first.first m is.spare below) (serves_from nodes spares entries v m is),
+    )
 
 -- the search for a spare finds the lowest, or there is none
 pub SpareMeans-spare_of : (nodes spares : ℕ) (entries : List RosterEntry) (v : ℕ) →

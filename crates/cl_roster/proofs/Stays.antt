@@ -118,7 +118,7 @@ member_step nodes spares entries (Repaired w n) v m lawful lives member =
     let roles = roles_after nodes entries v in
     cond_both (w == v) (record { primary = roles.primary; standby = Some n }) roles (λ (r : Roles). is_member r m ≡ true)
     (λ same. member_with_standby roles.primary roles.standby n m
-      (subst (λ (u : ℕ). (roles_after nodes entries u).standby ≡ None) (eqb-true w v same) lawful.lone) member)
+    (subst (λ (u : ℕ). (roles_after nodes entries u).standby ≡ None) (eqb-true w v same) lawful.lone) member)
     (λ other. member)
 
 -- a member stays a member until it stops
@@ -128,6 +128,6 @@ pub member_stays : (nodes spares : ℕ) (entries more : List RosterEntry) (v m :
 member_stays nodes spares entries more v m lawful member =
     along_from nodes spares (λ xs. has_stopped xs m ≡ false → is_member (roles_after nodes xs v) m ≡ true)
     (λ xs entry _ next keeps lives.
-      (let parts = or_parts (has_stopped xs m) (is_stop_of m entry) (sym (has_stopped-push xs entry m) ∙ lives) in
-      ap (λ (r : Roles). is_member r m) (roles_after-push nodes xs entry v) ∙ member_step nodes spares xs entry v m next parts.1 (keeps parts.0)))
+    (let parts = or_parts (has_stopped xs m) (is_stop_of m entry) (sym (has_stopped-push xs entry m) ∙ lives) in
+    ap (λ (r : Roles). is_member r m) (roles_after-push nodes xs entry v) ∙ member_step nodes spares xs entry v m next parts.1 (keeps parts.0)))
     entries more lawful (λ _. member)

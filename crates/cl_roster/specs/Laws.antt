@@ -2,6 +2,7 @@
 use Rattle.std.specs.Prelude.{◌≡◌, ◌≢◌, ℕ, ◌<◌, ◌≤◌, true, false, List, [], ◌∷◌, ◌++◌, length, take, Some, None, Ok}
 use Rattle.cl_roster.specs.declared.entry.RosterEntry.{RosterEntry}
 use Rattle.cl_roster.specs.declared.entry.RosterEntry.TheVariants.{Stopped, Repaired}
+use Rattle.cl_roster.specs.declared.limits.TheConstants.{ENTRIES_MAX}
 use Rattle.cl_roster.specs.declared.roles.Roles.{Roles}
 use Rattle.cl_roster.specs.Roles.{roles_after, after_entry, is_member}
 use Rattle.cl_roster.specs.Roster.{is_living, has_stopped, stop_verdict, spare_of, IsClusterSize, IsLawfulEntry, IsLawfulRoster}
@@ -105,7 +106,7 @@ PickedSpareIsLawful = (nodes spares : ℕ) (entries : List RosterEntry) (v n : �
     (roles_after nodes entries v).standby ≡ None → spare_of nodes spares entries v ≡ Some n →
     IsLawfulEntry nodes spares entries (Repaired v n)
 
--- a lawful roster has at most 144 entries
+-- a lawful roster is short
 abbrev pub LawfulRostersAreShort : Type 0
 LawfulRostersAreShort = (nodes spares : ℕ) (entries : List RosterEntry) → IsClusterSize nodes spares →
-    IsLawfulRoster nodes spares entries → length entries ≤ 144
+    IsLawfulRoster nodes spares entries → length entries ≤ ENTRIES_MAX

@@ -36,5 +36,4 @@ pub fn verdicts_and_spares()
     ensures verdict { VerdictsMean }
     ensures spare { SparesMean }
     ensures lawful { PickedSpareIsLawful }
-{
-}
+{}

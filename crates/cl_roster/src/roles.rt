@@ -1,8 +1,8 @@
 //! The roles of one virtual node.
-ghost use Rattle.std.specs.Prelude.{◌≡◌, ◌+◌, ◌%◌, ◌<◌, ◌≤◌};
+ghost use Rattle.std.specs.Prelude.{◌≡◌, ◌+◌, ◌%◌, ◌<◌};
 ghost use Rattle.cl_roster.specs.Roles.{first_roles, after_stop, after_entry, is_only_member};
 
-use crate::RosterEntry;
+use crate::{RosterEntry, VIRTUAL_NODES_MAX};
 
 /// Who holds a virtual node: its primary and, where there is one, its standby.
 #[derive(Clone, Copy, Debug, PartialEq, Eq)]
@@ -15,7 +15,7 @@ impl Roles {
     // The roles at the start, of a cluster with so many nodes.
     pub(crate) fn first(nodes: u32, virtual_node: u32) -> Roles
         requires some { 0 < nodes }
-        requires few { virtual_node ≤ 8 }
+        requires few { virtual_node < VIRTUAL_NODES_MAX }
         ensures { result ≡ first_roles nodes virtual_node }
     {
         Roles {

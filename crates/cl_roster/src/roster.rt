@@ -4,7 +4,7 @@ ghost use Rattle.cl_roster.specs.Roles.{roles_after};
 ghost use Rattle.cl_roster.specs.Roster.{IsClusterSize, IsLawfulEntry, IsLawfulRoster, entry_at, has_stopped, is_living, lowest_alone, spare_of, stop_verdict};
 
 use crate::standing::Standing;
-use crate::{Roles, RosterEntry};
+use crate::{ENTRIES_MAX, NODES_MAX, Roles, RosterEntry, VIRTUAL_NODES_MAX};
 use cl_types::{AppendOnlyList, NoMemory, StopFault};
 use std::alloc::Global;
 use std::marker::Model;
@@ -72,10 +72,10 @@ impl Roster {
         Ok(())
     }
 
-    /// How many entries there are: at most 144, since each node stops once, and each repair makes good for a stop.
+    /// How many entries there are.
     pub fn len(&self) -> u32
         ensures count { result ≡ length self.now.entries }
-        ensures few { result ≤ 144 }
+        ensures few { result ≤ ENTRIES_MAX }
         ensures size { IsClusterSize self.now.nodes self.now.spares }
         ensures lawful { IsLawfulRoster self.now.nodes self.now.spares self.now.entries }
     {
@@ -127,7 +127,7 @@ impl Roster {
     fn has_stopped(&self, node: u32) -> bool
         ensures { result ≡ has_stopped self.now.entries node }
     {
-        node < 16 && self.standing.has_stopped(node)
+        (node as usize) < NODES_MAX && self.standing.has_stopped(node)
     }
 
     /// Whether the stop of the node is admitted. It is refused where there is no such node, where the
@@ -180,7 +180,7 @@ impl Roster {
 // The roles of the virtual node after the entries.
 fn roles_after(nodes: u32, entries: &[RosterEntry], virtual_node: u32) -> Roles
     requires some { 0 < nodes }
-    requires few { virtual_node ≤ 8 }
+    requires few { virtual_node < VIRTUAL_NODES_MAX }
     ensures { result ≡ roles_after nodes entries.now virtual_node }
 {
     entries.iter().fold(

@@ -4,46 +4,46 @@ ghost use Rattle.std.specs.List.{slice_index_or};
 ghost use Rattle.cl_roster.specs.Roles.{first_roles, after_entry};
 ghost use Rattle.cl_roster.specs.Roster.{is_stop_of};
 
-use crate::{Roles, RosterEntry};
+use crate::{NODES_MAX, Roles, RosterEntry, VIRTUAL_NODES_MAX};
 
 /// The roles of each virtual node and the flag of each node, by number.
 #[derive(Debug, Drop)]
 pub(crate) struct Standing {
-    roles: [Roles; 8],
-    stopped: [bool; 16],
+    roles: [Roles; VIRTUAL_NODES_MAX],
+    stopped: [bool; NODES_MAX],
 }
 
 // The roles of each virtual node at the start.
-fn all_first(nodes: u32) -> [Roles; 8]
+fn all_first(nodes: u32) -> [Roles; VIRTUAL_NODES_MAX]
     requires { 0 < nodes }
-    ensures { (v : ℕ) (d : Roles) → v < 8 → slice_index_or result v d ≡ first_roles nodes v }
+    ensures { (v : ℕ) (d : Roles) → v < VIRTUAL_NODES_MAX → slice_index_or result v d ≡ first_roles nodes v }
 {
-    let mut roles = [Roles::first(nodes, 0); 8];
-    for virtual_node in 0..8u32 {
-        roles[virtual_node as usize] = Roles::first(nodes, virtual_node);
+    let mut roles = [Roles::first(nodes, 0); VIRTUAL_NODES_MAX];
+    for virtual_node in 0..VIRTUAL_NODES_MAX {
+        roles[virtual_node] = Roles::first(nodes, virtual_node as u32);
     }
     roles
 }
 
 // Takes one entry more into the roles of each virtual node.
-fn note_roles(roles: &mut [Roles; 8], entry: RosterEntry)
-    ensures { (v : ℕ) (d : Roles) → v < 8
+fn note_roles(roles: &mut [Roles; VIRTUAL_NODES_MAX], entry: RosterEntry)
+    ensures { (v : ℕ) (d : Roles) → v < VIRTUAL_NODES_MAX
         → slice_index_or roles.new v d ≡ after_entry v (slice_index_or roles.old v d) entry }
 {
-    for virtual_node in 0..8u32 {
-        let place = virtual_node as usize;
-        roles[place] = roles[place].after(virtual_node, entry);
+    for virtual_node in 0..VIRTUAL_NODES_MAX {
+        roles[virtual_node] = roles[virtual_node].after(virtual_node as u32, entry);
     }
 }
 
 // Takes one entry more into the flags.
-fn note_stop(stopped: &mut [bool; 16], entry: RosterEntry)
-    ensures { (n : ℕ) (d : Bool) → n < 16
+fn note_stop(stopped: &mut [bool; NODES_MAX], entry: RosterEntry)
+    ensures { (n : ℕ) (d : Bool) → n < NODES_MAX
         → slice_index_or stopped.new n d ≡ (slice_index_or stopped.old n d || is_stop_of n entry) }
 {
     if let RosterEntry::Stopped(node) = entry {
-        if node < 16 {
-            stopped[node as usize] = true;
+        let place = node as usize;
+        if place < NODES_MAX {
+            stopped[place] = true;
         }
     }
 }
@@ -60,7 +60,7 @@ impl Standing {
     {
         Standing {
             roles: all_first(nodes),
-            stopped: [false; 16],
+            stopped: [false; NODES_MAX],
         }
     }
 
@@ -75,7 +75,7 @@ impl Standing {
 
     // The roles of the virtual node.
     pub(crate) fn roles(&self, virtual_node: u32) -> Roles
-        requires { virtual_node < 8 }
+        requires { virtual_node < VIRTUAL_NODES_MAX }
         ensures { (nodes : ℕ) (entries : List RosterEntry) → Stands nodes entries self.now
             → result ≡ roles_after nodes entries virtual_node }
     {
@@ -84,7 +84,7 @@ impl Standing {
 
     // Whether the node has stopped.
     pub(crate) fn has_stopped(&self, node: u32) -> bool
-        requires { node < 16 }
+        requires { node < NODES_MAX }
         ensures { (nodes : ℕ) (entries : List RosterEntry) → Stands nodes entries self.now
             → result ≡ has_stopped entries node }
     {

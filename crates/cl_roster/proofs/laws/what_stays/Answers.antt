@@ -10,7 +10,7 @@ returns c = record {
   primary = λ nodes entries more v lives.
       primary_stays nodes entries more v (not-true (has_stopped (entries ++ more) (roles_after nodes entries v).primary) lives);
   member = λ nodes spares entries more v n lawful was lives.
-    member_stays nodes spares entries more v n lawful was (not-true (has_stopped (entries ++ more) n) lives);
+      member_stays nodes spares entries more v n lawful was (not-true (has_stopped (entries ++ more) n) lives);
   stopped = stopped_never_returns;
   prefix = roles_after-take-append;
 }
