@@ -15,3 +15,6 @@ pub use laws::{
 pub use limits::{ENTRIES_MAX, NODES_MAX, VIRTUAL_NODES_MAX};
 pub use roles::Roles;
 pub use roster::Roster;
+
+#[cfg(test)]
+mod tests;

@@ -101,7 +101,9 @@ impl Roster {
     pub fn roles(&self, k: u32, virtual_node: u32) -> Roles
         requires noted { k ≤ length self.now.entries }
         requires known { virtual_node < self.now.nodes }
-        ensures { result ≡ roles_after self.now.nodes (take k self.now.entries) virtual_node }
+        ensures noted { result ≡ roles_after self.now.nodes (take k self.now.entries) virtual_node }
+        ensures now { k ≡ length self.now.entries
+            → result ≡ roles_after self.now.nodes self.now.entries virtual_node }
     {
         let entries = self.entries.as_slice();
         if k as usize == entries.len() {
@@ -114,7 +116,8 @@ impl Roster {
     /// After all entries it is found without a walk.
     pub fn living(&self, k: u32, node: u32) -> bool
         requires { k ≤ length self.now.entries }
-        ensures { result ≡ is_living (take k self.now.entries) node }
+        ensures noted { result ≡ is_living (take k self.now.entries) node }
+        ensures now { k ≡ length self.now.entries → result ≡ is_living self.now.entries node }
     {
         let entries = self.entries.as_slice();
         if k as usize == entries.len() {
