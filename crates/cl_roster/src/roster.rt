@@ -1,7 +1,7 @@
 //! The roster itself: a list of entries that only grows, and what is kept beside it.
-ghost use Rattle.std.specs.Prelude.{◌≡◌, ◌+◌, ◌<◌, ◌≤◌, ◌↔◌, [], ◌∷◌, ◌++◌, length, take, None, IsTrue, IsOk, OnOk, OnErr, IfSome};
+ghost use Rattle.std.specs.Prelude.{◌≡◌, ◌==◌, ◌&&◌, not, ◌+◌, ◌<◌, ◌≤◌, ◌↔◌, [], ◌∷◌, ◌++◌, length, take, None, IsTrue, IsOk, OnOk, OnErr, IfSome};
 ghost use Rattle.cl_roster.specs.Roles.{roles_after};
-ghost use Rattle.cl_roster.specs.Roster.{IsClusterSize, IsLawfulEntry, IsLawfulRoster, entry_at, has_stopped, is_living, lowest_alone, spare_of, stop_verdict};
+ghost use Rattle.cl_roster.specs.Roster.{IsClusterSize, IsLawfulEntry, IsLawfulRoster, entry_at, has_stopped, is_living, lowest_alone, site, spare_of, stop_verdict};
 
 use crate::standing::Standing;
 use crate::{ENTRIES_MAX, NODES_MAX, Roles, RosterEntry, VIRTUAL_NODES_MAX};
@@ -157,6 +157,19 @@ impl Roster {
         (0..self.nodes).find(|virtual_node| self.standing.roles(*virtual_node).is_only(node))
     }
 
+    /// Whether the node may become the standby of the virtual node: the virtual node is there and has no
+    /// standby, and the node is there, has not stopped and is not its primary.
+    pub fn may_repair(&self, virtual_node: u32, node: u32) -> bool
+        ensures { IsTrue result
+            ↔ IsLawfulEntry self.now.nodes self.now.spares self.now.entries (RosterEntry.Repaired virtual_node node) }
+    {
+        if self.nodes <= virtual_node || self.nodes + self.spares <= node {
+            return false;
+        }
+        let roles = self.standing.roles(virtual_node);
+        roles.standby.is_none() && roles.primary != node && !self.has_stopped(node)
+    }
+
     /// The spare that repairs a virtual node without standby: the lowest living one on the site other
     /// than that of its primary, or `None` where there is none.
     pub fn spare_for(&self, virtual_node: u32) -> Option<u32>
@@ -175,8 +188,14 @@ impl Roster {
         ensures { result ≡ spare_of self.now.nodes self.now.spares self.now.entries virtual_node }
     {
         let primary = self.standing.roles(virtual_node).primary;
-        (self.nodes..self.nodes + self.spares).find(|spare| !self.has_stopped(*spare)
-            && *spare % 2 != primary % 2)
+        (self.nodes..self.nodes + self.spares).find(|spare| self.can_stand_by(primary, *spare))
+    }
+
+    // Whether the node lives, and is on the site other than that of the primary.
+    fn can_stand_by(&self, primary: u32, node: u32) -> bool
+        ensures { result ≡ (is_living self.now.entries node && not (site node == site primary)) }
+    {
+        !self.has_stopped(node) && site(node) != site(primary)
     }
 }
 
@@ -190,6 +209,13 @@ fn roles_after(nodes: u32, entries: &[RosterEntry], virtual_node: u32) -> Roles
         Roles::first(nodes, virtual_node),
         |roles, entry| roles.after(virtual_node, *entry),
     )
+}
+
+// The site of the node.
+fn site(node: u32) -> u32
+    ensures { result ≡ site node }
+{
+    node % 2
 }
 
 // Whether the node's stop is among the entries.

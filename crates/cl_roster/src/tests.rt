@@ -66,16 +66,12 @@ fn repair_where_lone(roster: &mut Roster, virtual_node: u32) -> Result<Option<u3
     Ok(Some(spare))
 }
 
-// Repairs the virtual node by that spare, whatever its site, where it has no standby and the spare can serve.
+// Repairs the virtual node by that spare, whatever its site, where the spare may serve.
 fn repair_by(roster: &mut Roster, virtual_node: u32, spare: u32) -> Result<(), NoMemory>
-    requires known { virtual_node < roster.old.nodes }
-    requires spare { spare < roster.old.nodes + roster.old.spares }
     ensures nodes { roster.new.nodes ≡ roster.old.nodes }
     ensures spares { roster.new.spares ≡ roster.old.spares }
 {
-    let count = roster.len();
-    let roles = roster.roles(count, virtual_node);
-    if roles.standby.is_none() && roles.primary != spare && roster.living(count, spare) {
+    if roster.may_repair(virtual_node, spare) {
         roster.push(RosterEntry::Repaired(virtual_node, spare))?;
     }
     Ok(())
