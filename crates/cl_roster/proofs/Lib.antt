@@ -1,0 +1,13 @@
+pub mod Bound
+pub mod Counts
+pub mod Effects
+pub mod Examples
+pub mod Lawful
+pub mod Lists
+pub mod Members
+pub mod Repairs
+pub mod Searches
+pub mod Sites
+pub mod Stays
+pub mod Steps
+pub mod Verdict
