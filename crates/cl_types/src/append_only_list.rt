@@ -46,6 +46,15 @@ impl<T> AppendOnlyList<T> {
         self.list.push(entry)
     }
 
+    /// Adds an entry at the end, where there is room for it. It takes no memory.
+    pub fn push_reserved(&mut self, entry: T)
+        requires { 1 ≤ room self.old }
+        ensures entries { entries self.new ≡ entries self.old ++ entry ∷ [] }
+        ensures room { room self.new + 1 ≡ room self.old }
+    {
+        self.list.push_reserved(entry);
+    }
+
     /// How many entries there are.
     pub fn len(&self) -> usize
         ensures { result ≡ length (entries self.now) }

@@ -1,5 +1,5 @@
 //! The one list that grows, on which every named list of the server stands.
-ghost use Rattle.std.specs.Prelude.{◌≡◌, ◌+◌, ◌≤◌, ◌↔◌, [], ◌∷◌, ◌++◌, length, IsTrue, IsOk, OnOk, OnErr, IfNone, IfSome, slice_get};
+ghost use Rattle.std.specs.Prelude.{◌≡◌, ◌+◌, ◌≤◌, ◌↔◌, [], ◌∷◌, ◌++◌, length, IsTrue, IsOk, OnOk, OnErr, IfOk, IfNone, IfSome, slice_get};
 ghost use Rattle.std.specs.Option.{option_copied, option_to_list};
 ghost use Rattle.cl_types.specs.GrowingList.{items, spare};
 
@@ -51,6 +51,15 @@ impl<T> GrowingList<T> {
         Ok(())
     }
 
+    /// Adds an item at the end, where there is room for it. It takes no memory.
+    pub fn push_reserved(&mut self, item: T)
+        requires { 1 ≤ spare self.old }
+        ensures items { items self.new ≡ items self.old ++ item ∷ [] }
+        ensures spare { spare self.new + 1 ≡ spare self.old }
+    {
+        self.items.push_reserved(item);
+    }
+
     /// Takes the last item off. Its room stays.
     pub fn pop(&mut self) -> Option<T>
         ensures items { items self.old ≡ items self.new ++ option_to_list result }
@@ -91,6 +100,14 @@ impl<T> GrowingList<T> {
 }
 
 impl GrowingList<u8> {
+    /// A text of these bytes.
+    pub fn copy_of(alloc: Global, bytes: &[u8]) -> Result<Text, NoMemory>
+        ensures { IfOk result (λ text. items text ≡ bytes.now) }
+    {
+        let items = Vec::from_slice(alloc, bytes)?;
+        Ok(GrowingList { items })
+    }
+
     /// The bytes, first to last.
     pub fn bytes(&self) -> &[u8]
         ensures { result.now ≡ items self.now }
