@@ -1,0 +1,6 @@
+pub mod Gathered
+pub mod Growth
+pub mod LineLemmas
+pub mod Places
+pub mod PlainMapLemmas
+pub mod Replayed

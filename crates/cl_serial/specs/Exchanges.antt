@@ -1,0 +1,35 @@
+-- The exchanges of a session: its lines and their answers.
+use Rattle.std.specs.Prelude.{ℕ, Bool, true, false, List, [], ◌∷◌, if◌then◌else◌, Option, Some, None}
+use Rattle.cl_types.specs.declared.operations.Command.{Command}
+use Rattle.cl_types.specs.declared.answers.Outcome.{Outcome}
+use Rattle.cl_serial.specs.Transcript.{Entry, questions, answers}
+
+-- a command, the place of its line, and its answer with the place of that, where there is one
+pub record Exchange : Type 0 where
+  pub command : Command
+  pub line : ℕ
+  pub answer : Option (Outcome × ℕ)
+
+-- the k-th command is answered by the k-th answer
+unfoldable pub pair_up : List (Command × ℕ) → List (Outcome × ℕ) → List Exchange
+pair_up [] given = []
+pair_up (asked ∷ rest) [] = record { command = asked.0; line = asked.1; answer = None } ∷ pair_up rest []
+pair_up (asked ∷ rest) (answer ∷ given) = record { command = asked.0; line = asked.1; answer = Some answer } ∷ pair_up rest given
+
+-- the exchanges of a session, in the order of its lines
+abbrev pub exchanges : ℕ → List Entry → List Exchange
+exchanges session transcript = pair_up (questions session transcript) (answers session transcript)
+
+-- the outcome of an exchange, where it was answered
+abbrev pub outcome_of : Exchange → Option Outcome
+outcome_of exchange = elim exchange.answer [ None ↦ None | Some answer ↦ Some answer.0 ]
+
+-- what follows an exchange in turn: nothing where it was not answered
+abbrev pub after_answer : Option (Outcome × ℕ) → List Exchange → List Exchange
+after_answer None rest = []
+after_answer (Some answer) rest = rest
+
+-- the exchanges whose turn has come: up to the first without an answer, that one included
+unfoldable pub in_turn : List Exchange → List Exchange
+in_turn [] = []
+in_turn (exchange ∷ rest) = exchange ∷ after_answer exchange.answer (in_turn rest)

@@ -1,0 +1,7 @@
+pub mod Transcript
+pub mod Exchanges
+pub mod Transactions
+pub mod PlainMap
+pub mod PlainMapModel
+pub mod Serial
+pub mod Bytes

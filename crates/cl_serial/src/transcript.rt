@@ -1,0 +1,20 @@
+//! What a run was fed and what it answered.
+use cl_lines::Out as Printed;
+use cl_types::{AppendOnlyList, Text, TxnId};
+
+/// One entry of a transcript.
+#[derive(Debug, Drop)]
+pub enum Said {
+    /// The line of that number, counted from 1, was fed.
+    In(u64, Text),
+    /// The line was printed.
+    Out(Printed),
+    /// The moment is quiet.
+    Quiet,
+}
+
+/// What was fed and what was written, in order.
+pub type Transcript = AppendOnlyList<Said>;
+
+/// The names of the transactions that are committed, in the order of their commits.
+pub type History = AppendOnlyList<TxnId>;
