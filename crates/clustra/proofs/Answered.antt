@@ -1,0 +1,235 @@
+-- One more line of session 1 and its answer: what was promised of the transcript holds of the longer one.
+use Rattle.std.proofs.Common.{◌≡◌, ◌≢◌, ℕ, ◌+◌, ◌<◌, ◌≤◌, ◌⊎◌, inl, inr, List, [], ◌∷◌, ◌++◌, length, take, Option, Some, None, IsSome, refl, sym, ◌∙◌, ap, subst, arith}
+use Rattle.std.specs.Option.{unwrap_or}
+use Rattle.std.proofs.lemmas.Bool.{cases_eq}
+use Rattle.std.proofs.lemmas.List.{take-append-le, take_at}
+use Rattle.cl_types.specs.declared.operations.Command.{Command}
+use Rattle.cl_types.specs.declared.operations.TxnId.{TxnId}
+use Rattle.cl_types.specs.declared.answers.Outcome.{Outcome}
+use Rattle.cl_lines.specs.declared.line.LineFault.{LineFault}
+use Rattle.cl_lines.specs.declared.out.Out.{Out}
+use Rattle.cl_lines.specs.declared.out.Out.TheVariants.{Answer, BadLine}
+use Rattle.cl_lines.specs.Line.{client_of, fault_of}
+use Rattle.cl_serial.specs.Transcript.{Entry, fed, written, quiet, questions, answers, command_in}
+use Rattle.cl_serial.specs.Exchanges.{Exchange, exchanges, outcome_of, pair_up, in_turn}
+use Rattle.cl_serial.specs.Transactions.{Session, session_of, session_after, session_step, commands_in, numbered}
+use Rattle.cl_serial.specs.Serial.{StandsAt, IsIn, IsAnswered, AnswersFollow, AnswersFitTurns, FitsTurn, RefusalsTrue, EveryLineAnswered}
+use Rattle.cl_serial.proofs.Places.{StandsAt-push, StandsAt-push_last, StandsAt-within, StandsAt-append_left}
+use Rattle.cl_serial.proofs.Growth.{KeepsCommands-step, all_of}
+use Rattle.clustra.proofs.Turns.{exchange_at}
+use Rattle.clustra.proofs.Pairs.{with_pair, questions-with_pair, answers-with_pair, command_in-other, outcome_in-other, exchanges-answered, session_of-paired, session_after-push}
+use Rattle.std.proofs.lemmas.List.{append-nil, length-append}
+
+-- where an entry of the longer transcript stands: before, or it is the line, or what was written for it
+pub data Standing (transcript : List Entry) (line out entry : Entry) (place : ℕ) : Type 0 where
+  before : StandsAt transcript place entry → Standing transcript line out entry place
+  the_line : place ≡ length transcript → entry ≡ line → Standing transcript line out entry place
+  the_answer : place ≡ length transcript + 1 → entry ≡ out → Standing transcript line out entry place
+
+pub standing : (transcript : List Entry) (number : ℕ) (text : List ℕ) (out : Out) (place : ℕ) (entry : Entry) → StandsAt (with_pair transcript number text out) place entry →
+    Standing transcript (fed number text) (written out) entry place
+standing transcript number text out place entry h =
+    elim (StandsAt-push (transcript ++ fed number text ∷ []) (written out) place entry h) [
+      | inl front ↦ elim (StandsAt-push transcript (fed number text) place entry front) [ inl old ↦ before old | inr line ↦ the_line line.0 line.1 ]
+      | inr last ↦ the_answer (last.0 ∙ length-append transcript (fed number text ∷ [])) last.1
+    ]
+
+-- the line and what was written for it stand there
+pub line_stands : (transcript : List Entry) (number : ℕ) (text : List ℕ) (out : Out) → StandsAt (with_pair transcript number text out) (length transcript) (fed number text)
+line_stands transcript number text out = StandsAt-append_left (transcript ++ fed number text ∷ []) (written out ∷ []) (length transcript) (fed number text) (StandsAt-push_last transcript (fed number text))
+
+pub answer_stands : (transcript : List Entry) (number : ℕ) (text : List ℕ) (out : Out) → StandsAt (with_pair transcript number text out) (length transcript + 1) (written out)
+answer_stands transcript number text out =
+    let P : ℕ → Type 0 = λ n. StandsAt (with_pair transcript number text out) n (written out) in
+    subst P (length-append transcript (fed number text ∷ [])) (StandsAt-push_last (transcript ++ fed number text ∷ []) (written out))
+
+pub stands_before : (transcript : List Entry) (number : ℕ) (text : List ℕ) (out : Out) (place : ℕ) (entry : Entry) → StandsAt transcript place entry → StandsAt (with_pair transcript number text out) place entry
+stands_before transcript number text out place entry h =
+    StandsAt-append_left (transcript ++ fed number text ∷ []) (written out ∷ []) place entry (StandsAt-append_left transcript (fed number text ∷ []) place entry h)
+
+-- the fault of the line that an entry feeds
+abbrev pub fault_in : Entry → Option LineFault
+fault_in (fed number text) = fault_of text
+fault_in (written out) = None
+fault_in quiet = None
+
+module _ (transcript : List Entry) (number : ℕ) (text : List ℕ) (command : Command) (outcome : Outcome) (reads : client_of text ≡ Some (1, command)) where
+  -- the longer transcript
+  abbrev pub longer : List Entry
+  longer = with_pair transcript number text (Answer 1 outcome)
+
+  pub questions-first : questions 1 longer ≡ questions 1 transcript ++ (command, length transcript) ∷ []
+  questions-first = questions-with_pair 1 transcript number text (Answer 1 outcome) ∙ ap (λ line. questions 1 transcript ++ command_in 1 (length transcript) line) reads
+
+  pub answers-first : answers 1 longer ≡ answers 1 transcript ++ (outcome, length transcript + 1) ∷ []
+  answers-first = answers-with_pair 1 transcript number text (Answer 1 outcome)
+
+  pub questions-others : (session : ℕ) → session ≢ 1 → questions session longer ≡ questions session transcript
+  questions-others session other =
+      questions-with_pair session transcript number text (Answer 1 outcome)
+      ∙ ap (λ line. questions session transcript ++ command_in session (length transcript) line) reads
+      ∙ ap (λ more. questions session transcript ++ more) (command_in-other session (length transcript) command other)
+      ∙ append-nil (questions session transcript)
+
+  pub answers-others : (session : ℕ) → session ≢ 1 → answers session longer ≡ answers session transcript
+  answers-others session other =
+      answers-with_pair session transcript number text (Answer 1 outcome)
+      ∙ ap (λ more. answers session transcript ++ more) (outcome_in-other session (length transcript + 1) outcome other)
+      ∙ append-nil (answers session transcript)
+
+  -- the one exchange more
+  abbrev pub one : Exchange
+  one = exchange_at (length transcript) command outcome
+
+  pub paired-longer : length (questions 1 transcript) ≡ length (answers 1 transcript) → length (questions 1 longer) ≡ length (answers 1 longer)
+  paired-longer paired =
+      let q = ap length questions-first ∙ length-append (questions 1 transcript) ((command, length transcript) ∷ []) in
+      let a = ap length answers-first ∙ length-append (answers 1 transcript) ((outcome, length transcript + 1) ∷ []) in
+      omega (arith, q, a, paired)
+
+  pub exchanges-others : (session : ℕ) → session ≢ 1 → exchanges session longer ≡ exchanges session transcript
+  exchanges-others session other =
+      ap (λ asked. pair_up asked (answers session longer)) (questions-others session other)
+      ∙ ap (pair_up (questions session transcript)) (answers-others session other)
+
+  pub session_of-others : (session : ℕ) → session ≢ 1 → session_of session longer ≡ session_of session transcript
+  session_of-others session other = ap (λ list. session_after (in_turn list)) (exchanges-others session other)
+
+  pub session_of-first : length (questions 1 transcript) ≡ length (answers 1 transcript) → session_of 1 longer ≡ session_step (session_of 1 transcript) one
+  session_of-first paired =
+      session_of-paired 1 longer (paired-longer paired)
+      ∙ ap session_after (exchanges-answered transcript number text command outcome reads paired)
+      ∙ session_after-push (exchanges 1 transcript) one
+      ∙ ap (λ session. session_step session one) (sym (session_of-paired 1 transcript paired))
+
+  -- a transaction keeps its commands
+  kept_here : length (questions 1 transcript) ≡ length (answers 1 transcript) → (n : ℕ) (exchange : Exchange) →
+      IsIn (commands_in (numbered (all_of (session_of 1 transcript)) n)) exchange → IsIn (commands_in (numbered (all_of (session_of 1 longer)) n)) exchange
+  kept_here paired n exchange h =
+      let P : Session → Type 0 = λ session. IsIn (commands_in (numbered (all_of session) n)) exchange in
+      subst P (sym (session_of-first paired)) (KeepsCommands-step (session_of 1 transcript) one n exchange h)
+
+  kept_there : (session : ℕ) → session ≢ 1 → (n : ℕ) (exchange : Exchange) →
+      IsIn (commands_in (numbered (all_of (session_of session transcript)) n)) exchange → IsIn (commands_in (numbered (all_of (session_of session longer)) n)) exchange
+  kept_there session other n exchange h =
+      let P : Session → Type 0 = λ state. IsIn (commands_in (numbered (all_of state) n)) exchange in
+      subst P (sym (session_of-others session other)) h
+
+  kept_anywhere : length (questions 1 transcript) ≡ length (answers 1 transcript) → (session : ℕ) → (session ≡ 1) ⊎ (session ≡ 1 → ⊥) → (n : ℕ) (exchange : Exchange) →
+      IsIn (commands_in (numbered (all_of (session_of session transcript)) n)) exchange → IsIn (commands_in (numbered (all_of (session_of session longer)) n)) exchange
+  kept_anywhere paired session (inl is_first) n exchange h =
+      let P : ℕ → Type 0 = λ s. IsIn (commands_in (numbered (all_of (session_of s transcript)) n)) exchange → IsIn (commands_in (numbered (all_of (session_of s longer)) n)) exchange in
+      subst P (sym is_first) (kept_here paired n exchange) h
+  kept_anywhere paired session (inr other) n exchange h = kept_there session other n exchange h
+
+  pub IsAnswered-longer : length (questions 1 transcript) ≡ length (answers 1 transcript) → (name : TxnId) (given : Outcome) (place : ℕ) → IsAnswered transcript name given place → IsAnswered longer name given place
+  IsAnswered-longer paired name given place h =
+      (h.0, kept_anywhere paired name.session (cases_eq name.session 1) name.number h.0 h.1, h.2)
+
+  -- each answer of a session still follows its line
+  follow_first : AnswersFollow transcript → length (questions 1 transcript) ≡ length (answers 1 transcript) → (k : ℕ) (given : Outcome) (place : ℕ) →
+      StandsAt (answers 1 transcript) k (given, place) ⊎ ((k ≡ length (answers 1 transcript)) × (◌≡◌ {A = Outcome × ℕ} (given, place) (outcome, length transcript + 1))) →
+      (asked : Command) × (line : ℕ) × StandsAt (questions 1 transcript ++ (command, length transcript) ∷ []) k (asked, line) × (line < place)
+  follow_first follow paired k given place (inl old) =
+      let found = follow 1 k given place old in
+      (found.0, found.1, StandsAt-append_left (questions 1 transcript) ((command, length transcript) ∷ []) k (found.0, found.1) found.2, found.3)
+  follow_first follow paired k given place (inr new) =
+      let P : ℕ → Type 0 = λ n. StandsAt (questions 1 transcript ++ (command, length transcript) ∷ []) n (command, length transcript) in
+      let at_end : place ≡ length transcript + 1 = ap (λ (p : Outcome × ℕ). p.1) new.1 in
+      (command, length transcript, subst P (paired ∙ sym new.0) (StandsAt-push_last (questions 1 transcript) (command, length transcript)), omega (arith, at_end))
+
+  follow_any : AnswersFollow transcript → length (questions 1 transcript) ≡ length (answers 1 transcript) → (session : ℕ) → (session ≡ 1) ⊎ (session ≡ 1 → ⊥) → (k : ℕ) (given : Outcome) (place : ℕ) →
+      StandsAt (answers session longer) k (given, place) → (asked : Command) × (line : ℕ) × StandsAt (questions session longer) k (asked, line) × (line < place)
+  follow_any follow paired session (inl is_first) k given place h =
+      let P : List (Outcome × ℕ) → Type 0 = λ list. StandsAt list k (given, place) in
+      let Q : List (Command × ℕ) → Type 0 = λ list. (asked : Command) × (line : ℕ) × StandsAt list k (asked, line) × (line < place) in
+      let R : ℕ → Type 0 = λ s. StandsAt (answers s longer) k (given, place) → Q (questions s longer) in
+      subst R (sym is_first) (λ at.
+      subst Q (sym questions-first) (follow_first follow paired k given place
+      (StandsAt-push (answers 1 transcript) (outcome, length transcript + 1) k (given, place) (subst P answers-first at)))) h
+  follow_any follow paired session (inr other) k given place h =
+      let P : List (Outcome × ℕ) → Type 0 = λ list. StandsAt list k (given, place) in
+      let Q : List (Command × ℕ) → Type 0 = λ list. (asked : Command) × (line : ℕ) × StandsAt list k (asked, line) × (line < place) in
+      subst Q (sym (questions-others session other)) (follow session k given place (subst P (answers-others session other) h))
+
+  pub AnswersFollow-longer : AnswersFollow transcript → length (questions 1 transcript) ≡ length (answers 1 transcript) → AnswersFollow longer
+  AnswersFollow-longer follow paired session k given place h = follow_any follow paired session (cases_eq session 1) k given place h
+
+  -- each outcome fits its turn
+  fit_first : AnswersFitTurns transcript → length (questions 1 transcript) ≡ length (answers 1 transcript) → FitsTurn (session_of 1 transcript) command outcome →
+      (k : ℕ) (exchange : Exchange) (given : Outcome) → StandsAt (exchanges 1 transcript) k exchange ⊎ ((k ≡ length (exchanges 1 transcript)) × (exchange ≡ one)) → outcome_of exchange ≡ Some given →
+      FitsTurn (session_after (take k (exchanges 1 transcript ++ one ∷ []))) exchange.command given
+  fit_first fit paired fits k exchange given (inl old) is =
+      let P : List Exchange → Type 0 = λ list. FitsTurn (session_after list) exchange.command given in
+      let below : k ≤ length (exchanges 1 transcript) = omega (arith, StandsAt-within (exchanges 1 transcript) k exchange old) in
+      subst P (sym (take-append-le k (exchanges 1 transcript) (one ∷ []) below)) (fit 1 k exchange given old is)
+  fit_first fit paired fits k exchange given (inr new) is =
+      let P : List Exchange → Type 0 = λ list. FitsTurn (session_after list) exchange.command given in
+      let Q : Session → Type 0 = λ session. FitsTurn session exchange.command given in
+      let R : Command → Type 0 = λ c. FitsTurn (session_of 1 transcript) c given in
+      let S : Outcome → Type 0 = λ o. FitsTurn (session_of 1 transcript) command o in
+      let same : Some given ≡ Some outcome = sym is ∙ ap outcome_of new.1 in
+      let same_outcome : given ≡ outcome = ap (λ (o : Option Outcome). unwrap_or o given) same in
+      let same_command : exchange.command ≡ command = ap (λ (e : Exchange). e.command) new.1 in
+      subst P (sym (take_at (exchanges 1 transcript) (one ∷ []) k (sym new.0)))
+      (subst Q (session_of-paired 1 transcript paired) (subst R (sym same_command) (subst S (sym same_outcome) fits)))
+
+  fit_any : AnswersFitTurns transcript → length (questions 1 transcript) ≡ length (answers 1 transcript) → FitsTurn (session_of 1 transcript) command outcome →
+      (session : ℕ) → (session ≡ 1) ⊎ (session ≡ 1 → ⊥) → (k : ℕ) (exchange : Exchange) (given : Outcome) → StandsAt (exchanges session longer) k exchange → outcome_of exchange ≡ Some given →
+      FitsTurn (session_after (take k (exchanges session longer))) exchange.command given
+  fit_any fit paired fits session (inl is_first) k exchange given h is =
+      let P : List Exchange → Type 0 = λ list. StandsAt list k exchange → FitsTurn (session_after (take k list)) exchange.command given in
+      let R : ℕ → Type 0 = λ s. P (exchanges s longer) in
+      subst R (sym is_first) (subst P (sym (exchanges-answered transcript number text command outcome reads paired))
+      (λ at. fit_first fit paired fits k exchange given (StandsAt-push (exchanges 1 transcript) one k exchange at) is)) h
+  fit_any fit paired fits session (inr other) k exchange given h is =
+      let P : List Exchange → Type 0 = λ list. StandsAt list k exchange → FitsTurn (session_after (take k list)) exchange.command given in
+      subst P (sym (exchanges-others session other)) (λ at. fit session k exchange given at is) h
+
+  pub AnswersFitTurns-longer : AnswersFitTurns transcript → length (questions 1 transcript) ≡ length (answers 1 transcript) → FitsTurn (session_of 1 transcript) command outcome → AnswersFitTurns longer
+  AnswersFitTurns-longer fit paired fits session k exchange given h is = fit_any fit paired fits session (cases_eq session 1) k exchange given h is
+
+  -- no line more is refused
+  refused_before : RefusalsTrue transcript → (place line : ℕ) (fault : LineFault) → Standing transcript (fed number text) (written (Answer 1 outcome)) (written (BadLine line fault)) place →
+      (earlier : ℕ) × (refused : List ℕ) × (earlier < place) × StandsAt longer earlier (fed line refused) × (fault_of refused ≡ Some fault)
+  refused_before true_before place line fault (before at) =
+      let found = true_before place line fault at in
+      (found.0, found.1, found.2, stands_before transcript number text (Answer 1 outcome) found.0 (fed line found.1) found.3, found.4)
+  refused_before true_before place line fault (the_line at is) = absurd (cc)
+  refused_before true_before place line fault (the_answer at is) = absurd (cc)
+
+  pub RefusalsTrue-longer : RefusalsTrue transcript → RefusalsTrue longer
+  RefusalsTrue-longer true_before place line fault h = refused_before true_before place line fault (standing transcript number text (Answer 1 outcome) place (written (BadLine line fault)) h)
+
+  -- every line has its answer
+  answered_first : EveryLineAnswered transcript → (k : ℕ) (exchange : Exchange) → StandsAt (exchanges 1 transcript) k exchange ⊎ ((k ≡ length (exchanges 1 transcript)) × (exchange ≡ one)) → IsSome (outcome_of exchange)
+  answered_first every k exchange (inl old) = every.answered 1 k exchange old
+  answered_first every k exchange (inr new) = let P : Exchange → Type 0 = λ e. IsSome (outcome_of e) in subst P (sym new.1) refl
+
+  answered_any : EveryLineAnswered transcript → length (questions 1 transcript) ≡ length (answers 1 transcript) → (session : ℕ) → (session ≡ 1) ⊎ (session ≡ 1 → ⊥) → (k : ℕ) (exchange : Exchange) →
+      StandsAt (exchanges session longer) k exchange → IsSome (outcome_of exchange)
+  answered_any every paired session (inl is_first) k exchange h =
+      let P : List Exchange → Type 0 = λ list. StandsAt list k exchange in
+      let R : ℕ → Type 0 = λ s. StandsAt (exchanges s longer) k exchange in
+      answered_first every k exchange (StandsAt-push (exchanges 1 transcript) one k exchange
+      (subst P (exchanges-answered transcript number text command outcome reads paired) (subst R is_first h)))
+  answered_any every paired session (inr other) k exchange h =
+      let P : List Exchange → Type 0 = λ list. StandsAt list k exchange in
+      every.answered session k exchange (subst P (exchanges-others session other) h)
+
+  refused_after : EveryLineAnswered transcript → fault_of text ≡ None → (place line : ℕ) (refused : List ℕ) (fault : LineFault) →
+      Standing transcript (fed number text) (written (Answer 1 outcome)) (fed line refused) place → fault_of refused ≡ Some fault →
+      (after : ℕ) × (place < after) × StandsAt longer after (written (BadLine line fault))
+  refused_after every well place line refused fault (before at) is =
+      let found = every.refused place line refused fault at is in
+      (found.0, found.1, stands_before transcript number text (Answer 1 outcome) found.0 (written (BadLine line fault)) found.2)
+  refused_after every well place line refused fault (the_line at same) is =
+      let P : Entry → Type 0 = λ entry. fault_in entry ≡ Some fault in
+      let both : None ≡ Some fault = sym well ∙ subst P same is in absurd (cc)
+  refused_after every well place line refused fault (the_answer at same) is = absurd (cc)
+
+  pub EveryLineAnswered-longer : EveryLineAnswered transcript → fault_of text ≡ None → length (questions 1 transcript) ≡ length (answers 1 transcript) → EveryLineAnswered longer
+  EveryLineAnswered-longer every well paired = record {
+    answered = λ session k exchange h. answered_any every paired session (cases_eq session 1) k exchange h;
+    refused = λ place line refused fault h is. refused_after every well place line refused fault (standing transcript number text (Answer 1 outcome) place (fed line refused) h) is;
+  }

@@ -1,0 +1,92 @@
+-- What was read so far, piece by piece.
+use Rattle.std.proofs.Common.{◌≡◌, ℕ, ◌+◌, ◌-◌, ◌<◌, ◌≤◌, inl, inr, ◌==◌, not, List, [], ◌++◌, length, get_or, Option, Ok, Err, refl, sym, ◌∙◌, ap, subst, arith}
+use Rattle.std.proofs.lemmas.Bool.{cases_lt}
+use Rattle.cl_io.specs.Told.{prepend_told}
+use Rattle.cl_io.proofs.ToldLemmas.{prepend_told-nil, prepend_told-more}
+use Rattle.cl_serial.specs.Bytes.{whole_lines}
+use Rattle.cl_serial.proofs.LineLemmas.{newlines, one_if, length-whole_lines_append}
+use Rattle.clustra.specs.Input.{IsTooMuch, Reads, EndsReading, AddsPiece}
+use Rattle.clustra.specs.declared.input.InputFault.{InputFault}
+use Rattle.clustra.specs.declared.input.InputFault.TheVariants.{Read, TooMuch, NoMemory}
+
+pub within : (bytes : List ℕ) → length (whole_lines bytes) ≤ 100000 → length bytes ≤ 25700000 → IsTooMuch bytes → ⊥
+within bytes few_lines few_bytes (inl many) = omega (arith, few_lines, many)
+within bytes few_lines few_bytes (inr many) = omega (arith, few_bytes, many)
+
+pub few_bytes_of : (bytes : List ℕ) → (IsTooMuch bytes → ⊥) → length bytes ≤ 25700000
+few_bytes_of bytes fits = elim (cases_lt 25700000 (length bytes)) [ inl many ↦ absurd (fits (inr many)) | inr few ↦ few ]
+
+-- how many lines have begun, so many newlines having come before the piece
+abbrev pub begun_with : ℕ → List ℕ → ℕ
+begun_with count piece = count + newlines piece + one_if (not (get_or piece (length piece - 1) 0 == 10))
+
+pub lines_with : (count : ℕ) (bytes piece : List ℕ) → count ≡ newlines bytes → 0 < length piece → length (whole_lines (bytes ++ piece)) ≡ begun_with count piece
+lines_with count bytes piece counted some =
+    length-whole_lines_append bytes piece some ∙ ap (λ n. n + newlines piece + one_if (not (get_or piece (length piece - 1) 0 == 10))) (sym counted)
+
+-- these bytes were read, and they are within the limits
+pub record ReadSoFar (start now : Option (List ℕ)) (count : ℕ) (bytes : List ℕ) : Type 0 where
+  pub taken : start ≡ prepend_told bytes now
+  pub counted : count ≡ newlines bytes
+  pub fits : IsTooMuch bytes → ⊥
+
+pub ReadSoFar-start : (left : Option (List ℕ)) (bytes : List ℕ) → bytes ≡ [] → ReadSoFar left left 0 bytes
+unfolding whole_lines
+ReadSoFar-start left bytes none =
+    let P : List ℕ → Type 0 = λ list. ReadSoFar left left 0 list in
+    subst P (sym none) (record { taken = sym (prepend_told-nil left); counted = refl; fits = within [] (omega arith) (omega arith) })
+
+-- one piece more
+pub ReadSoFar-more : (start now next : Option (List ℕ)) (count count' : ℕ) (bytes piece grown : List ℕ) (done : Unit {0}) → ReadSoFar start now count bytes → now ≡ prepend_told piece next →
+    AddsPiece bytes piece grown (Ok done) → count' ≡ newlines grown → ReadSoFar start next count' grown
+ReadSoFar-more start now next count count' bytes piece grown done h more adds counted = record {
+  taken = prepend_told-more start now next bytes piece h.taken more ∙ ap (λ list. prepend_told list next) (sym adds.0);
+  counted = counted;
+  fits = let P : List ℕ → Type 0 = λ list. IsTooMuch list → ⊥ in subst P (sym adds.0) adds.1;
+}
+
+-- the piece could not be added
+pub Reads-refused : {V : Type 0} (view : V → List ℕ) (start now next : Option (List ℕ)) (count : ℕ) (bytes piece grown : List ℕ) (fault : InputFault) → ReadSoFar start now count bytes → now ≡ prepend_told piece next →
+    AddsPiece bytes piece grown (Err fault) → Reads view start next (Err fault)
+Reads-refused view start now next count bytes piece grown fault h more adds = record {
+  read = bytes ++ piece;
+  taken = prepend_told-more start now next bytes piece h.taken more;
+  ends = by_fault fault adds;
+}
+  where
+    by_fault : (fault : InputFault) → AddsPiece bytes piece grown (Err fault) → EndsReading view (Err fault) (bytes ++ piece)
+    by_fault Read adds = absurd adds
+    by_fault TooMuch adds = adds
+    by_fault NoMemory adds = adds
+
+-- it is not for a read that a piece is not added
+pub not_read : (bytes piece grown : List ℕ) (fault : InputFault) (P : Type 0) → AddsPiece bytes piece grown (Err fault) → fault ≡ Read → P
+not_read bytes piece grown Read P adds is = absurd adds
+not_read bytes piece grown TooMuch P adds is = absurd (cc)
+not_read bytes piece grown NoMemory P adds is = absurd (cc)
+
+-- a read that failed
+pub Reads-fault : {V : Type 0} (view : V → List ℕ) (start now next : Option (List ℕ)) (count : ℕ) (bytes : List ℕ) → ReadSoFar start now count bytes → next ≡ now → Reads view start next (Err Read)
+Reads-fault view start now next count bytes h same = record {
+  read = bytes;
+  taken = h.taken ∙ ap (prepend_told bytes) (sym same);
+  ends = h.fits;
+}
+
+-- the end
+pub Reads-end : {V : Type 0} (view : V → List ℕ) (start now next : Option (List ℕ)) (count : ℕ) (bytes none : List ℕ) (all : V) → ReadSoFar start now count bytes → now ≡ prepend_told none next → none ≡ [] →
+    view all ≡ bytes → Reads view start next (Ok all)
+Reads-end view start now next count bytes none all h more is_none viewed = record {
+  read = bytes;
+  taken = h.taken ∙ ap (prepend_told bytes) (more ∙ ap (λ list. prepend_told list next) is_none ∙ prepend_told-nil next);
+  ends = (viewed, h.fits);
+}
+
+-- nothing was read
+pub Reads-nothing : {V : Type 0} (view : V → List ℕ) (start : Option (List ℕ)) → Reads view start start (Err NoMemory)
+unfolding whole_lines
+Reads-nothing view start = record {
+  read = [];
+  taken = sym (prepend_told-nil start);
+  ends = within [] (omega arith) (omega arith);
+}

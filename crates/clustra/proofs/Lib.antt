@@ -1,0 +1,13 @@
+pub mod Orders
+pub mod Turns
+pub mod Steps
+pub mod Pairs
+pub mod Answered
+pub mod Members
+pub mod Refused
+pub mod Lines
+pub mod Guarantee
+pub mod Asked
+pub mod FedLines
+pub mod Inputs
+pub mod Runs

@@ -1,0 +1,5 @@
+pub mod Input
+pub mod Kept
+pub mod Run
+pub mod Server
+pub mod Turn

@@ -1,0 +1,74 @@
+//! The top call of the program.
+ghost use Rattle.std.specs.Prelude.{◌≡◌, ◌≤◌, ◌⊎◌, ◌↔◌, true, false, map, None, IsSome, IfSome, string_bytes};
+ghost use Rattle.cl_types.specs.AppendOnlyList.{entries};
+ghost use Rattle.cl_io.specs.Faults.{Rose};
+ghost use Rattle.cl_io.specs.Told.{IsAtEnd};
+ghost use Rattle.cl_serial.specs.Transcript.{transcript_of, full_text};
+ghost use Rattle.cl_serial.specs.Serial.{Serializable, EveryLineAnswered};
+ghost use Rattle.clustra.specs.Run.{AreServe, ReadsInput, WritesText, WritesAll, IsEndStatus};
+
+use crate::ended::{Ended, USAGE};
+use crate::serving::serve;
+use cl_io::{Gate, Sink, Source};
+use std::alloc::Global;
+use std::sync::Wait;
+use std::thread::Threads;
+
+// Whether the words are the one word `serve`.
+fn are_serve(words: &[String]) -> bool
+    ensures serve { result ≡ true → AreServe (map string_bytes words.now) }
+    ensures other { result ≡ false → AreServe (map string_bytes words.now) → ⊥ }
+{
+    match words {
+        [word] => word.as_str() == "serve",
+        _ => false,
+    }
+}
+
+/// Runs the server on the words of its command line: `serve` and nothing else.
+///
+/// The statuses are those of `Ended`.
+pub fn clustra<R: Threads + Wait + Sync, S: Source, K: Sink, G: Gate + Sync>(
+    _rt: &R,
+    alloc: Global,
+    words: &[String],
+    source: &mut S,
+    sink: &mut K,
+    _gate: &G,
+) -> Ended
+    // Words other than `serve` are refused, and then nothing is read or written.
+    ensures usage { (result.status ≡ 2) ↔ (AreServe (map string_bytes words.now) → ⊥) }
+    ensures untouched { result.status ≡ 2 → (source.new ≡ source.old) × (sink.new ≡ sink.old) × (result.kept ≡ None) }
+    ensures kept { (result.status ≡ 2 → ⊥) → IsSome result.kept }
+    ensures status { (result.status ≡ 2 → ⊥) → IsEndStatus result.status }
+
+    // The kept history explains the kept transcript, one transaction after another.
+    ensures serializable { IfSome result.kept (λ kept. Serializable (transcript_of kept.transcript) (entries kept.history)) }
+
+    // The transcript is of the lines that were read, and its text is what was written.
+    ensures read { IfSome result.kept (λ kept.
+        ReadsInput result.status (S.left source.old) (S.left source.new) (transcript_of kept.transcript)) }
+    ensures written { IfSome result.kept (λ kept.
+        WritesText (K.written sink.old) (K.written sink.new) (full_text (transcript_of kept.transcript))) }
+    ensures all { IfSome result.kept (λ kept. (result.status ≡ 0) ⊎ ((result.status ≡ 3) ⊎ (result.status ≡ 5))
+        → WritesAll (K.written sink.old) (K.written sink.new) (full_text (transcript_of kept.transcript))) }
+
+    // Each status has its cause.
+    ensures end { result.status ≡ 0 → IsAtEnd (S.left source.new) }
+    ensures answered { IfSome result.kept (λ kept. result.status ≡ 0 → EveryLineAnswered (transcript_of kept.transcript)) }
+    ensures read_fault { result.status ≡ 3 → Rose (S.faults source.old) (S.faults source.new) }
+    ensures write_fault { result.status ≡ 4 → Rose (K.faults sink.old) (K.faults sink.new) }
+    ensures counted { (S.faults source.old ≤ S.faults source.new) × (K.faults sink.old ≤ K.faults sink.new) }
+{
+    if !are_serve(words) {
+        return Ended {
+            status: USAGE,
+            kept: None,
+        };
+    }
+    let (status, kept) = serve(alloc, source, sink);
+    Ended {
+        status,
+        kept: Some(kept),
+    }
+}

@@ -1,0 +1,30 @@
+//! How a run ended, and what is kept of it.
+use cl_serial::{History, Transcript};
+
+/// What is kept of a run: what was fed and written, and the order in which transactions committed.
+#[derive(Debug, Drop)]
+pub struct Kept {
+    pub transcript: Transcript,
+    pub history: History,
+}
+
+/// How a run ended. `kept` is `None` at status 2, and at status 6 where memory was wanting before
+/// anything could be kept.
+#[derive(Debug, Drop)]
+pub struct Ended {
+    pub status: u8,
+    pub kept: Option<Kept>,
+}
+
+/// The source was read to its end, every line was answered, and every answer written.
+pub const DONE: u8 = 0;
+/// The words are not of the grammar. Nothing was read or written.
+pub const USAGE: u8 = 2;
+/// A read failed.
+pub const READ_FAULT: u8 = 3;
+/// A write failed.
+pub const WRITE_FAULT: u8 = 4;
+/// There is more input than a run takes.
+pub const TOO_MUCH_INPUT: u8 = 5;
+/// Memory was wanting.
+pub const NO_MEMORY: u8 = 6;

@@ -1,0 +1,55 @@
+//! The lines of the input, one after another.
+ghost use Rattle.std.specs.Prelude.{◌≡◌, ℕ, ◌<◌, [], ◌∷◌, length, OnOk};
+ghost use Rattle.cl_serial.specs.Transcript.{transcript_of, fed_lines};
+ghost use Rattle.cl_serial.specs.Bytes.{whole_lines, kept_line, lines_of, FeedsFirstLines};
+ghost use Rattle.clustra.specs.Server.{IsServing};
+
+use crate::server::Server;
+use cl_lines::LINE_MAX;
+use cl_types::NoMemory;
+use std::alloc::Global;
+
+// The first line of some bytes without its newline, and the bytes after that.
+fn first_line(bytes: &[u8]) -> (&[u8], &[u8])
+    requires { 0 < length bytes.now }
+    ensures line { whole_lines bytes.now ≡ result.0.now ∷ whole_lines result.1.now }
+    ensures shorter { length result.1.now < length bytes.now }
+{
+    for (place, byte) in bytes.iter().enumerate() {
+        if *byte == b'\n' {
+            return (&bytes[..place], &bytes[place + 1..]);
+        }
+    }
+    (bytes, &[])
+}
+
+// What is kept of a line: one byte more than a line may have shows that it is too long.
+fn kept(line: &[u8]) -> &[u8]
+    ensures { result.now ≡ kept_line line.now }
+{
+    if line.len() <= LINE_MAX {
+        line
+    } else {
+        &line[..LINE_MAX + 1]
+    }
+}
+
+/// Feeds the lines of the bytes to a server that was fed nothing. After a refusal it was fed the first of them.
+pub(crate) fn feed_lines(alloc: Global, server: &mut Server, bytes: &[u8]) -> Result<(), NoMemory>
+    requires serving { IsServing server.old }
+    requires unfed { transcript_of server.old.transcript ≡ [] }
+    requires unbegun { server.old.begun ≡ 0 }
+    ensures serving { IsServing server.new }
+    ensures first { FeedsFirstLines (transcript_of server.new.transcript) bytes.now }
+    ensures all { OnOk result (fed_lines (transcript_of server.new.transcript) ≡ lines_of bytes.now) }
+{
+    let mut rest = bytes;
+    let mut number: u64 = 0;
+    while !rest.is_empty() {
+        let (line, after) = first_line(rest);
+        number += 1;
+        server.feed(alloc, number, kept(line))?;
+        rest = after;
+    }
+    Ok(())
+}

@@ -1,0 +1,120 @@
+//! Reading the whole input, within its limits.
+ghost use Rattle.std.specs.Prelude.{◌≡◌, ℕ, ◌+◌, ◌-◌, ◌<◌, ◌≤◌, ◌==◌, ◌^◌, not, if◌then◌else◌, length, take, count_by, slice_index, IfOk, OnOk, OnErr, IfErr, Err, vec_len};
+ghost use Rattle.cl_io.specs.Faults.{Rose};
+ghost use Rattle.cl_io.specs.Told.{prepend_told, IsAtEnd};
+ghost use Rattle.clustra.specs.Input.{Reads, AddsPiece};
+
+use cl_io::{Failed, Source};
+use std::alloc::{AllocError, Global};
+
+/// The most lines of a run.
+pub(crate) const LINES_MAX: usize = 100_000;
+
+/// The most bytes of a run.
+pub(crate) const BYTES_MAX: usize = 25_700_000;
+
+// How many bytes are asked for at once.
+const PIECE: usize = 65_536;
+
+/// Why the input was not read to its end.
+#[derive(Clone, Copy, Debug, PartialEq, Eq)]
+pub(crate) enum InputFault {
+    /// A read failed.
+    Read,
+    /// There is a line or a byte too many.
+    TooMuch,
+    NoMemory,
+}
+
+// Reads into the front of the buffer, at most `room` bytes.
+fn read_piece<S: Source>(source: &mut S, buffer: &mut [u8], room: usize) -> Result<usize, Failed>
+    requires some { 0 < room }
+    requires within { room ≤ length buffer.old }
+    ensures within { IfOk result (λ count. count ≤ room) }
+    ensures taken { IfOk result (λ count. S.left source.old ≡ prepend_told (take count buffer.new) (S.left source.new)) }
+    ensures end { IfOk result (λ count. count ≡ 0 → IsAtEnd (S.left source.new)) }
+    ensures kept { OnErr result (S.left source.new ≡ S.left source.old) }
+    ensures fault { OnErr result (Rose (S.faults source.old) (S.faults source.new)) }
+    ensures counted { S.faults source.old ≤ S.faults source.new }
+{
+    source.read(&mut buffer[..room])
+}
+
+// How many newlines there are.
+fn count_newlines(piece: &[u8]) -> usize
+    ensures count { result ≡ count_by (λ byte. byte == 10) piece.now }
+    ensures within { result ≤ length piece.now }
+{
+    piece.iter().filter(|byte| **byte == b'\n').count()
+}
+
+// How many lines have begun, with so many newlines and this piece as the last.
+fn lines_begun(newlines: usize, piece: &[u8]) -> usize
+    requires some { 0 < length piece.now }
+    requires few { newlines < 2 ^ 63 }
+    ensures { result ≡ newlines + (if not (slice_index piece.now (length piece.now - 1) == 10) then 1 else 0) }
+{
+    if piece[piece.len() - 1] == b'\n' {
+        newlines
+    } else {
+        newlines + 1
+    }
+}
+
+// A buffer for one piece.
+fn new_buffer(alloc: Global) -> Result<Vec<u8>, AllocError>
+    ensures { IfOk result (λ buffer. vec_len buffer ≡ PIECE) }
+{
+    vec![in alloc; 0u8; PIECE]
+}
+
+// Adds a piece to the bytes so far, unless there is too much with it.
+fn add_piece(bytes: &mut Vec<u8>, newlines: &mut usize, piece: &[u8]) -> Result<(), InputFault>
+    requires some { 0 < length piece.now }
+    requires small { length piece.now ≤ PIECE }
+    requires few { vec_len bytes.old ≤ BYTES_MAX }
+    requires counted { newlines.old ≡ count_by (λ byte. byte == 10) bytes.old.items }
+    ensures adds { AddsPiece bytes.old.items piece.now bytes.new.items result }
+    ensures counted { OnOk result (newlines.new ≡ count_by (λ byte. byte == 10) bytes.new.items) }
+    ensures few { OnOk result (vec_len bytes.new ≤ BYTES_MAX) }
+    ensures more { OnOk result (vec_len bytes.new ≡ vec_len bytes.old + length piece.now) }
+{
+    let begun = *newlines + count_newlines(piece);
+    if LINES_MAX < lines_begun(begun, piece) {
+        return Err(InputFault::TooMuch);
+    }
+    if BYTES_MAX < bytes.len() + piece.len() {
+        return Err(InputFault::TooMuch);
+    }
+    if bytes.extend_from_slice(piece).is_err() {
+        return Err(InputFault::NoMemory);
+    }
+    *newlines = begun;
+    Ok(())
+}
+
+/// Reads to the end of the source, and no further than one byte past the limit.
+pub(crate) fn read_input<S: Source>(alloc: Global, source: &mut S) -> Result<Vec<u8>, InputFault>
+    ensures reads { Reads (λ bytes. bytes.items) (S.left source.old) (S.left source.new) result }
+    ensures end { IfOk result (λ _. IsAtEnd (S.left source.new)) }
+    ensures fault { IfErr result (λ fault. fault ≡ InputFault.Read → Rose (S.faults source.old) (S.faults source.new)) }
+    ensures counted { S.faults source.old ≤ S.faults source.new }
+{
+    let Ok(mut buffer) = new_buffer(alloc) else {
+        return Err(InputFault::NoMemory);
+    };
+    let mut bytes = Vec::new(alloc);
+    let mut newlines = 0;
+    'pieces: loop {
+        let room = PIECE.min(BYTES_MAX + 1 - bytes.len());
+        let Ok(count) = read_piece(source, &mut buffer, room) else {
+            return Err(InputFault::Read);
+        };
+        if count == 0 {
+            return Ok(bytes);
+        }
+        if let Err(fault) = add_piece(&mut bytes, &mut newlines, &buffer[..count]) {
+            return Err(fault);
+        }
+    }
+}
