@@ -1,6 +1,7 @@
 pub mod Bound
 pub mod Counts
 pub mod Effects
+pub mod Examples
 pub mod Lawful
 pub mod Lists
 pub mod Members

@@ -1,5 +1,6 @@
 -- What one entry more changes.
 use Rattle.std.proofs.Common.{◌≡◌, ℕ, ◌==◌, Bool, true, false, ◌||◌, List, [], ◌∷◌, ◌++◌, refl, ap, ◌∙◌}
+use Rattle.std.specs.List.{fold}
 use Rattle.std.proofs.lemmas.List.Sums.{fold-append}
 use Rattle.std.proofs.lemmas.List.Folds.{list_any-append}
 use Rattle.std.proofs.lemmas.Bool.{or_right, eq-eqb}
@@ -11,6 +12,11 @@ use Rattle.cl_roster.specs.Roster.{is_stop_of, has_stopped}
 pub or-false : (b : Bool) → (b || false) ≡ b
 or-false true = refl
 or-false false = refl
+
+-- the roles after more entries go on from those before
+pub roles_after-append : (nodes : ℕ) (entries more : List RosterEntry) (v : ℕ) →
+    roles_after nodes (entries ++ more) v ≡ fold (after_entry v) (roles_after nodes entries v) more
+roles_after-append nodes entries more v = fold-append (after_entry v) (first_roles nodes v) entries more
 
 -- the roles after one entry more are one step on
 pub roles_after-push : (nodes : ℕ) (entries : List RosterEntry) (entry : RosterEntry) (v : ℕ) →
