@@ -1,2 +1,7 @@
 pub mod KeptLemmas
 pub mod LinkLemmas
+pub mod LinkStates
+pub mod Places
+pub mod LinkOrders
+pub mod LinkPairs
+pub mod Networks

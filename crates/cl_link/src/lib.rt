@@ -2,6 +2,8 @@
 #![tactic(auto)]
 
 mod kept;
+mod law;
 mod link;
 
+pub use law::in_order_and_once;
 pub use link::{LAST_NUMBER, Link, Taken};
