@@ -7,9 +7,9 @@ use Rattle.std.proofs.lemmas.Option.{slice_get_within, get_or_from_slice_get}
 use Rattle.cl_link.specs.declared.link.Taken.{Taken}
 use Rattle.cl_link.specs.declared.link.Taken.TheVariants.{Now, Old, Gap}
 use Rattle.cl_link.specs.LinkState.{LinkState, no_message, last_number, unacknowledged, due_of, covered, taken_of, count_after, after_send, after_sent, after_again, after_heard, after_accept, after_drop_all}
-use Rattle.cl_link.specs.LinkPair.{LinkPacket, IsGiven, LinkOrder}
+use Rattle.cl_link.specs.LinkPair.{LinkPacket, IsGiven, LinkOrder, after_packet}
 use Rattle.cl_link.proofs.Places.{slice_get_kept, slice_get-drop, All-among}
-use Rattle.cl_link.proofs.LinkStates.{last_number-after_send, last_number-after_sent, last_number-after_again, last_number-after_heard, last_number-after_accept, last_number-after_drop_all, released-after_send, released-after_sent, released-after_again, released-after_heard, released-after_accept, released-after_drop_all, unacknowledged-after_send, unacknowledged-after_sent, unacknowledged-after_again, unacknowledged-after_heard, unacknowledged-after_accept, unacknowledged-after_drop_all, accepted-after_accept, number_of_taken, due_of-kept}
+use Rattle.cl_link.proofs.LinkStates.{last_number-after_send, last_number-after_sent, last_number-after_again, last_number-after_heard, last_number-after_accept, last_number-after_drop_all, released-after_send, released-after_sent, released-after_again, released-after_heard, released-after_accept, released-after_drop_all, unacknowledged-after_send, unacknowledged-after_sent, unacknowledged-after_again, unacknowledged-after_heard, unacknowledged-after_accept, unacknowledged-after_drop_all, accepted-after_heard, accepted-after_accept, number_of_taken, due_of-kept}
 
 -- what was given stays given
 pub IsGiven_more : {B : Type 0} (given : List B) (message : Option (ℕ × B)) (body : B) → IsGiven given message → IsGiven (given ++ body ∷ []) message
@@ -31,6 +31,10 @@ count_within : {B : Type 0} (s : LinkState B) (number count : ℕ) (taken : Take
 count_within s number count Now is within given = omega (arith, number_of_taken s number is)
 count_within s number count Old is within given = within
 count_within s number count Gap is within given = within
+
+pub accepted-after_packet : {B : Type 0} (s : LinkState B) (message : Option (ℕ × B)) (ack : ℕ) → s.accepted ≤ (after_packet s message ack).accepted
+accepted-after_packet s None ack = omega (arith, accepted-after_heard s ack)
+accepted-after_packet s (Some m) ack = omega (arith, accepted-after_accept s m.0 ack, count_after-le (taken_of s m.0) s.accepted)
 
 -- at the start
 pub order-start : {B : Type 0} → LinkOrder {B = B} [] no_message no_message []
@@ -147,8 +151,19 @@ module _ {B : Type 0} {given : List B} {sender receiver : LinkState B} {there : 
     carried = All-among (λ x. IsGiven given x.message) there others among order.carried;
   }
 
--- to the sender comes a message of the other way
-pub order_accept_back : {B : Type 0} {given : List B} {sender receiver : LinkState B} {there : List (LinkPacket B)} → LinkOrder given sender receiver there → (number ack : ℕ) → LinkOrder given (after_accept sender number ack) receiver there
-order_accept_back {sender = sender} order number ack =
-    order_same_sender (order_heard order ack) (after_accept sender number ack)
-    (last_number-after_accept sender number ack ∙ sym (last_number-after_heard sender ack)) (released-after_accept sender number ack) (unacknowledged-after_accept sender number ack)
+module _ {B : Type 0} {given : List B} {sender receiver : LinkState B} {there : List (LinkPacket B)} (order : LinkOrder given sender receiver there) where
+  -- a packet comes to the receiver
+  pub order_packet : (message : Option (ℕ × B)) (ack : ℕ) → IsGiven given message → LinkOrder given sender (after_packet receiver message ack) there
+  order_packet None ack is = order_same_receiver order _ (accepted-after_heard receiver ack)
+  order_packet (Some m) ack is = order_accept order m ack is
+
+  -- a packet comes back to the sender, maybe with a message of the other way
+  pub order_accept_back : (number ack : ℕ) → LinkOrder given (after_accept sender number ack) receiver there
+  order_accept_back number ack =
+      order_same_sender (order_heard order ack) (after_accept sender number ack)
+      (last_number-after_accept sender number ack ∙ sym (last_number-after_heard sender ack))
+      (released-after_accept sender number ack) (unacknowledged-after_accept sender number ack)
+
+  pub order_packet_back : (message : Option (ℕ × B)) (ack : ℕ) → LinkOrder given (after_packet sender message ack) receiver there
+  order_packet_back None ack = order_heard order ack
+  order_packet_back (Some m) ack = order_accept_back m.0 ack

@@ -1,12 +1,16 @@
 -- The invariant of a link: true at the start, and kept by each call at either end and by whatever the network does.
-use Rattle.std.proofs.Common.{◌≡◌, ℕ, ◌≤◌, List, [], ◌∷◌, ◌++◌, Option, Some, None, arith}
-use Rattle.std.specs.List.{Contains}
-use Rattle.std.proofs.lemmas.List.Elements.{All-push, All-nil, All-weaker}
-use Rattle.cl_link.specs.LinkState.{LinkState, no_message, due_of, taken_of, after_send, after_sent, after_again, after_heard, after_accept, after_drop_all}
-use Rattle.cl_link.specs.LinkPair.{LinkPacket, IsGiven, LinkAcks, LinkPair}
-use Rattle.cl_link.proofs.Places.{All-among}
+use Rattle.std.proofs.Common.{◌≡◌, ℕ, ◌+◌, ◌-◌, ◌≤◌, List, [], ◌∷◌, ◌++◌, length, take, drop, Option, Some, None, ap, sym, ◌∙◌, arith}
+use Rattle.std.specs.List.{Contains, remove}
+use Rattle.std.specs.List.Sorted.{IsPermutation}
+use Rattle.std.proofs.lemmas.List.Sorted.{Contains-permutation}
+use Rattle.std.proofs.lemmas.List.{drop-drop}
+use Rattle.std.proofs.lemmas.List.Elements.{All-push, All-nil, All-weaker, All-contains}
+use Rattle.cl_link.specs.declared.link.Taken.TheVariants.{Now}
+use Rattle.cl_link.specs.LinkState.{LinkState, no_message, last_number, unacknowledged, due_of, taken_of, after_send, after_sent, after_again, after_heard, after_accept, after_drop_all}
+use Rattle.cl_link.specs.LinkPair.{LinkPacket, IsGiven, LinkAcks, LinkPair, after_packet}
+use Rattle.cl_link.proofs.Places.{All-among, Contains-remove, Contains-again}
 use Rattle.cl_link.proofs.LinkStates.{released-after_send, released-after_sent, released-after_again, released-after_heard, released-after_accept, accepted-after_send, accepted-after_sent, accepted-after_again, accepted-after_heard, accepted-after_accept, accepted-after_drop_all}
-use Rattle.cl_link.proofs.LinkOrders.{order-start, order-due, order_send, order_sent, order_again, order_heard, order_accept_back, order_same_receiver, order_accept, order_emitted, order_among, count_after-le}
+use Rattle.cl_link.proofs.LinkOrders.{order-start, order-due, order_send, order_sent, order_again, order_heard, order_accept_back, order_same_receiver, order_accept, order_emitted, order_among, order_packet, order_packet_back, took_next, count_after-le, accepted-after_packet}
 
 module _ {B : Type 0} {sender receiver : LinkState B} {back : List (LinkPacket B)} (acks : LinkAcks sender receiver back) where
   -- another sender that released as many
@@ -22,6 +26,11 @@ module _ {B : Type 0} {sender receiver : LinkState B} {back : List (LinkPacket B
     released = omega (arith, released-after_accept sender number ack, released-after_heard sender ack, acks.released);
     carried = acks.carried;
   }
+
+  -- a packet comes back to the sender, maybe with a message of the other way
+  pub acks_packet_back : (message : Option (ℕ × B)) (ack : ℕ) → ack ≤ receiver.accepted → LinkAcks (after_packet sender message ack) receiver back
+  acks_packet_back None ack within = acks_heard ack within
+  acks_packet_back (Some m) ack within = acks_accept_back m.0 ack within
 
   -- another receiver that accepted as many, or more
   pub acks_more : (other : LinkState B) → receiver.accepted ≤ other.accepted → LinkAcks sender other back
@@ -49,6 +58,36 @@ pub pair-start : {B : Type 0} → LinkPair {B = B} [] no_message no_message [] [
 pair-start = record { order = order-start; acks = record { released = omega arith; carried = All-nil _ } }
 
 module _ {B : Type 0} {given : List B} {sender receiver : LinkState B} {there back : List (LinkPacket B)} (pair : LinkPair given sender receiver there back) where
+  -- what follows from the invariant
+
+  -- a numbered packet on its way carries the message given under its number
+  pub pair_given : (p : LinkPacket B) → Contains there p → IsGiven given p.message
+  pair_given p on_its_way = All-contains (λ x. IsGiven given x.message) there p pair.order.carried on_its_way
+
+  -- an acknowledgement on its way covers what was accepted
+  pub pair_acked : (p : LinkPacket B) → Contains back p → p.ack ≤ receiver.accepted
+  pair_acked p on_its_way = All-contains (λ x. x.ack ≤ receiver.accepted) back p pair.acks.carried on_its_way
+
+  -- none comes that is above what was given
+  pub pair_acked_given : (p : LinkPacket B) → Contains back p → p.ack ≤ last_number sender
+  pair_acked_given p on_its_way = omega (arith, pair_acked p on_its_way, pair.order.numbered, pair.order.accepted)
+
+  -- what is accepted now is the next of what was given
+  pub pair_next : (m : ℕ × B) → IsGiven given (Some m) → taken_of receiver m.0 ≡ Now → take receiver.accepted given ++ m.1 ∷ [] ≡ take (receiver.accepted + 1) given
+  pair_next m is now = took_next pair.order m is now
+
+  -- what was not accepted is kept
+  pub pair_rest : drop receiver.accepted given ≡ drop (receiver.accepted - sender.released) (unacknowledged sender)
+  pair_rest =
+      let sum : sender.released + (receiver.accepted - sender.released) ≡ receiver.accepted = omega (arith, pair.acks.released) in
+      ap (λ n. drop n given) (sym sum)
+      ∙ (sym (drop-drop (receiver.accepted - sender.released) sender.released given)
+      ∙ ap (drop (receiver.accepted - sender.released)) (sym pair.order.kept))
+
+  -- where nothing is kept, all that was given was accepted
+  pub pair_all : sender.kept ≡ [] → receiver.accepted ≡ length given
+  pair_all none = omega (arith, ap length none, pair.order.numbered, pair.order.accepted, pair.acks.released)
+
   -- calls of the sender
 
   pub sender_send : (body : B) → LinkPair (given ++ body ∷ []) (after_send sender body) receiver there back
@@ -107,6 +146,20 @@ module _ {B : Type 0} {given : List B} {sender receiver : LinkState B} {there ba
 
   -- what the network does
 
+  -- a packet on its way comes to the receiver
+  pub receiver_gets : (p : LinkPacket B) → Contains there p → LinkPair given sender (after_packet receiver p.message p.ack) there back
+  receiver_gets p on_its_way = record {
+    order = order_packet pair.order p.message p.ack (pair_given p on_its_way);
+    acks = acks_more pair.acks _ (accepted-after_packet receiver p.message p.ack);
+  }
+
+  -- a packet on its way back comes to the sender
+  pub sender_gets : (p : LinkPacket B) → Contains back p → LinkPair given (after_packet sender p.message p.ack) receiver there back
+  sender_gets p on_its_way = record {
+    order = order_packet_back pair.order p.message p.ack;
+    acks = acks_packet_back pair.acks p.message p.ack (pair_acked p on_its_way);
+  }
+
   -- the sender emits a packet with its due message, or with none
   pub sender_emits : (ack : ℕ) → LinkPair given sender receiver (there ++ record { message = due_of sender; ack = ack } ∷ []) back
   sender_emits ack = record { order = order_emitted pair.order _ (order-due pair.order); acks = pair.acks }
@@ -118,10 +171,31 @@ module _ {B : Type 0} {given : List B} {sender receiver : LinkState B} {there ba
   pub receiver_emits : (message : Option (ℕ × B)) → LinkPair given sender receiver there (back ++ record { message = message; ack = receiver.accepted } ∷ [])
   receiver_emits message = record { order = pair.order; acks = acks_emitted pair.acks _ (omega arith) }
 
-  -- packets on their way to the receiver are lost, repeated or reordered
+  -- each packet on its way to the receiver was on its way before
   pub there_among : (others : List (LinkPacket B)) → ((p : LinkPacket B) → Contains others p → Contains there p) → LinkPair given sender receiver others back
   there_among others among = record { order = order_among pair.order others among; acks = pair.acks }
 
-  -- packets on their way back are
+  -- each packet on its way back was on its way before
   pub back_among : (others : List (LinkPacket B)) → ((p : LinkPacket B) → Contains others p → Contains back p) → LinkPair given sender receiver there others
   back_among others among = record { order = pair.order; acks = acks_among pair.acks others among }
+
+  -- the packet at a place is lost
+  pub there_lost : (place : ℕ) → LinkPair given sender receiver (remove there place) back
+  there_lost place = there_among _ (Contains-remove there place)
+
+  pub back_lost : (place : ℕ) → LinkPair given sender receiver there (remove back place)
+  back_lost place = back_among _ (Contains-remove back place)
+
+  -- a packet is repeated
+  pub there_repeated : (p : LinkPacket B) → Contains there p → LinkPair given sender receiver (there ++ p ∷ []) back
+  there_repeated p on_its_way = there_among _ (Contains-again there p on_its_way)
+
+  pub back_repeated : (p : LinkPacket B) → Contains back p → LinkPair given sender receiver there (back ++ p ∷ [])
+  back_repeated p on_its_way = back_among _ (Contains-again back p on_its_way)
+
+  -- packets are reordered
+  pub there_reordered : (others : List (LinkPacket B)) → IsPermutation others there → LinkPair given sender receiver others back
+  there_reordered others moved = there_among others (λ p left. Contains-permutation others there p moved left)
+
+  pub back_reordered : (others : List (LinkPacket B)) → IsPermutation others back → LinkPair given sender receiver there others
+  back_reordered others moved = back_among others (λ p left. Contains-permutation others back p moved left)

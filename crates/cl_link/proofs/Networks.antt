@@ -6,13 +6,13 @@ use Rattle.std.proofs.lemmas.List.Elements.{All-weaker}
 use Rattle.std.proofs.lemmas.List.Sums.{fold-append}
 use Rattle.cl_link.specs.declared.link.Taken.{Taken}
 use Rattle.cl_link.specs.declared.link.Taken.TheVariants.{Now, Old, Gap}
-use Rattle.cl_link.specs.LinkState.{LinkState, last_number, taken_of, count_after, after_send, after_heard}
-use Rattle.cl_link.specs.LinkPair.{LinkPacket, IsGiven, LinkOrder, LinkAcks, LinkPair}
-use Rattle.cl_link.specs.Network.{LinkEnd, Network, LinkAct, Give, Mark, Tick, Emit, Comes, Lose, Drop, packet_of, took_after, after_message, after_packet, after_act, LinkEvent, after_event, quiet_network, after_events, InOrderAndOnce}
+use Rattle.cl_link.specs.LinkState.{LinkState, last_number, taken_of, count_after, after_send}
+use Rattle.cl_link.specs.LinkPair.{LinkPacket, IsGiven, LinkOrder, LinkAcks, LinkPair, after_packet}
+use Rattle.cl_link.specs.Network.{LinkEnd, Network, LinkAct, Give, Mark, Tick, Emit, Comes, Lose, Drop, packet_of, took_after, took_with, after_coming, after_act, LinkEvent, after_event, quiet_network, after_events, InOrderAndOnce}
 use Rattle.cl_link.proofs.Places.{All-slice_get, All-remove}
 use Rattle.cl_link.proofs.LinkStates.{accepted-after_send, accepted-after_sent, accepted-after_again, accepted-after_heard, accepted-after_accept, accepted-after_drop_all, released-after_send, released-after_sent, released-after_again}
-use Rattle.cl_link.proofs.LinkOrders.{order-start, order-due, order_send, order_sent, order_again, order_heard, order_drop_all, order_accept_back, order_same_receiver, order_accept, order_emitted, took_next, count_after-le}
-use Rattle.cl_link.proofs.LinkPairs.{pair-start, acks_same_sender, acks_heard, acks_accept_back, acks_more, acks_emitted}
+use Rattle.cl_link.proofs.LinkOrders.{order-start, order-due, order_send, order_sent, order_again, order_drop_all, order_same_receiver, order_packet, order_packet_back, order_emitted, took_next, accepted-after_packet}
+use Rattle.cl_link.proofs.LinkPairs.{pair-start, acks_same_sender, acks_packet_back, acks_more, acks_emitted}
 
 -- between the end of a sender and that of a receiver
 pub record EndsHold {B : Type 0} (sender receiver : LinkEnd B) : Type 0 where
@@ -20,14 +20,9 @@ pub record EndsHold {B : Type 0} (sender receiver : LinkEnd B) : Type 0 where
   pub acks : sender.dropped ≡ false → LinkAcks sender.link receiver.link receiver.out
   pub took : receiver.took ≡ take receiver.link.accepted sender.given
 
-accepted-after_message : {B : Type 0} (end : LinkEnd B) (message : Option (ℕ × B)) (ack : ℕ) → end.link.accepted ≤ (after_message end message ack).link.accepted
-accepted-after_message end None ack = omega (arith, accepted-after_heard end.link ack)
-accepted-after_message end (Some m) ack =
-    omega (arith, accepted-after_accept end.link m.0 ack, count_after-le (taken_of end.link m.0) end.link.accepted)
-
-accepted-after_packet : {B : Type 0} (end : LinkEnd B) (packet : Option (LinkPacket B)) → end.link.accepted ≤ (after_packet end packet).link.accepted
-accepted-after_packet end None = omega arith
-accepted-after_packet end (Some p) = accepted-after_message end p.message p.ack
+accepted-after_coming : {B : Type 0} (end : LinkEnd B) (packet : Option (LinkPacket B)) → end.link.accepted ≤ (after_coming end packet).link.accepted
+accepted-after_coming end None = omega arith
+accepted-after_coming end (Some p) = accepted-after_packet end.link p.message p.ack
 
 -- no act takes back what was accepted
 pub accepted-after_act : {B : Type 0} (act : LinkAct B) (end peer : LinkEnd B) → end.link.accepted ≤ (after_act act end peer).link.accepted
@@ -38,7 +33,7 @@ accepted-after_act (Give body) end peer =
 accepted-after_act (Mark number) end peer = omega (arith, accepted-after_sent end.link number)
 accepted-after_act Tick end peer = omega (arith, accepted-after_again end.link)
 accepted-after_act Emit end peer = omega arith
-accepted-after_act (Comes place) end peer = accepted-after_packet end (slice_get peer.out place)
+accepted-after_act (Comes place) end peer = accepted-after_coming end (slice_get peer.out place)
 accepted-after_act (Lose place) end peer = omega arith
 accepted-after_act Drop end peer = omega (arith, accepted-after_drop_all end.link)
 
@@ -62,19 +57,19 @@ module _ {B : Type 0} {sender receiver : LinkEnd B} (ends : EndsHold sender rece
     took = ends.took ∙ ap (λ n. take n sender.given) (sym same);
   }
 
-  receiver_message : (message : Option (ℕ × B)) (ack : ℕ) → IsGiven sender.given message → EndsHold sender (after_message receiver message ack)
-  receiver_message None ack is = receiver_same (after_heard receiver.link ack) receiver.given receiver.dropped (accepted-after_heard receiver.link ack)
-  receiver_message (Some m) ack is = record {
-    order = order_accept ends.order m ack is;
-    acks = λ alive. acks_more (ends.acks alive) _ (accepted-after_message receiver (Some m) ack);
-    took =
-        took_accept ends.order m is (taken_of receiver.link m.0) refl receiver.took ends.took
-        ∙ ap (λ n. take n sender.given) (sym (accepted-after_accept receiver.link m.0 ack));
-  }
+  receiver_took : (message : Option (ℕ × B)) (ack : ℕ) → IsGiven sender.given message → took_with receiver message ≡ take (after_packet receiver.link message ack).accepted sender.given
+  receiver_took None ack is = ends.took ∙ ap (λ n. take n sender.given) (sym (accepted-after_heard receiver.link ack))
+  receiver_took (Some m) ack is =
+      took_accept ends.order m is (taken_of receiver.link m.0) refl receiver.took ends.took
+      ∙ ap (λ n. take n sender.given) (sym (accepted-after_accept receiver.link m.0 ack))
 
-  receiver_packet : (packet : Option (LinkPacket B)) → ((p : LinkPacket B) → packet ≡ Some p → IsGiven sender.given p.message) → EndsHold sender (after_packet receiver packet)
-  receiver_packet None is = ends
-  receiver_packet (Some p) is = receiver_message p.message p.ack (is p refl)
+  receiver_comes : (packet : Option (LinkPacket B)) → ((p : LinkPacket B) → packet ≡ Some p → IsGiven sender.given p.message) → EndsHold sender (after_coming receiver packet)
+  receiver_comes None is = ends
+  receiver_comes (Some p) is = record {
+    order = order_packet ends.order p.message p.ack (is p refl);
+    acks = λ alive. acks_more (ends.acks alive) _ (accepted-after_packet receiver.link p.message p.ack);
+    took = receiver_took p.message p.ack (is p refl);
+  }
 
   receiver_acts : (act : LinkAct B) → EndsHold sender (after_act act receiver sender)
   unfolding after_act
@@ -89,7 +84,7 @@ module _ {B : Type 0} {sender receiver : LinkEnd B} (ends : EndsHold sender rece
     took = ends.took;
   }
   receiver_acts (Comes place) =
-      receiver_packet (slice_get sender.out place)
+      receiver_comes (slice_get sender.out place)
       (λ p at. All-slice_get (λ q. IsGiven sender.given q.message) sender.out place p ends.order.carried at)
   receiver_acts (Lose place) = record {
     order = ends.order;
@@ -106,15 +101,11 @@ module _ {B : Type 0} {sender receiver : LinkEnd B} (ends : EndsHold sender rece
   sender_same : (link : LinkState B) (took : List B) → LinkOrder sender.given link receiver.link sender.out → (sender.dropped ≡ false → LinkAcks link receiver.link receiver.out) → EndsHold (record sender { link = link; took = took }) receiver
   sender_same link took order acks = record { order = order; acks = acks; took = ends.took }
 
-  sender_message : (message : Option (ℕ × B)) (ack : ℕ) → (sender.dropped ≡ false → ack ≤ receiver.link.accepted) → EndsHold (after_message sender message ack) receiver
-  sender_message None ack within =
-      sender_same _ _ (order_heard ends.order ack) (λ alive. acks_heard (ends.acks alive) ack (within alive))
-  sender_message (Some m) ack within =
-      sender_same _ _ (order_accept_back ends.order m.0 ack) (λ alive. acks_accept_back (ends.acks alive) m.0 ack (within alive))
-
-  sender_packet : (packet : Option (LinkPacket B)) → ((p : LinkPacket B) → packet ≡ Some p → sender.dropped ≡ false → p.ack ≤ receiver.link.accepted) → EndsHold (after_packet sender packet) receiver
-  sender_packet None within = ends
-  sender_packet (Some p) within = sender_message p.message p.ack (within p refl)
+  sender_comes : (packet : Option (LinkPacket B)) → ((p : LinkPacket B) → packet ≡ Some p → sender.dropped ≡ false → p.ack ≤ receiver.link.accepted) → EndsHold (after_coming sender packet) receiver
+  sender_comes None within = ends
+  sender_comes (Some p) within =
+      sender_same _ _ (order_packet_back ends.order p.message p.ack)
+      (λ alive. acks_packet_back (ends.acks alive) p.message p.ack (within p refl alive))
 
   -- a packet of the peer comes, whose end was then this one: it may have accepted more by now
   sender_acts : (act : LinkAct B) (peer : LinkEnd B) → (sender.dropped ≡ false → All (λ q. q.ack ≤ receiver.link.accepted) peer.out) → EndsHold (after_act act sender peer) receiver
@@ -138,7 +129,7 @@ module _ {B : Type 0} {sender receiver : LinkEnd B} (ends : EndsHold sender rece
     took = ends.took;
   }
   sender_acts (Comes place) peer acked =
-      sender_packet (slice_get peer.out place)
+      sender_comes (slice_get peer.out place)
       (λ p at alive. All-slice_get (λ q. q.ack ≤ receiver.link.accepted) peer.out place p (acked alive) at)
   sender_acts (Lose place) peer acked = record {
     order = record {

@@ -1,8 +1,8 @@
 -- What stands at a place of a list, and what holds of each of its elements.
-use Rattle.std.proofs.Common.{◌≡◌, ℕ, zero, suc, ◌+◌, ◌<◌, List, [], ◌∷◌, ◌++◌, length, drop, Some, refl, ap, sym, ◌∙◌, subst, arith, zero-add}
+use Rattle.std.proofs.Common.{inl, inr, ◌≡◌, ℕ, zero, suc, ◌+◌, ◌<◌, List, [], ◌∷◌, ◌++◌, length, drop, Some, refl, ap, sym, ◌∙◌, subst, arith, zero-add}
 use Rattle.std.specs.List.{slice_get, All, Contains, remove}
 use Rattle.std.proofs.lemmas.List.{get_or_append_left, length-append}
-use Rattle.std.proofs.lemmas.List.Elements.{All-append, All-take, All-drop, All-get_or, All-contains, Contains-get_or}
+use Rattle.std.proofs.lemmas.List.Elements.{All-append, All-take, All-drop, All-get_or, All-contains, Contains-get_or, Contains-push_cases, All-contains_itself}
 use Rattle.std.proofs.lemmas.Option.{slice_get_within, slice_get-get_or, get_or_from_slice_get}
 
 -- what stands at a place still stands there once more was added at the end
@@ -29,3 +29,11 @@ All-remove P xs i all = All-append P _ _ (All-take P i xs all) (All-drop P (suc 
 -- what holds of each element holds of each of those that are among them
 pub All-among : {X : Type 0} (P : X → Type 0) (xs ys : List X) → ((x : X) → Contains ys x → Contains xs x) → All P xs → All P ys
 All-among P xs ys among all = λ k d within. All-contains P xs _ all (among _ (Contains-get_or ys k d within))
+
+-- what is left after one was taken out was there before
+pub Contains-remove : {X : Type 0} (xs : List X) (i : ℕ) (x : X) → Contains (remove xs i) x → Contains xs x
+Contains-remove xs i x left = All-contains (Contains xs) _ x (All-remove (Contains xs) xs i (All-contains_itself xs)) left
+
+-- what is there once an element was put there again was there before
+pub Contains-again : {X : Type 0} (xs : List X) (y : X) → Contains xs y → (x : X) → Contains (xs ++ y ∷ []) x → Contains xs x
+Contains-again xs y was x more = elim (Contains-push_cases xs y x more) [ inl there ↦ there | inr same ↦ subst (Contains xs) same was ]

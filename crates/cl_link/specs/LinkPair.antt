@@ -1,11 +1,16 @@
 -- Both ends of a link, with what is on its way between them.
 use Rattle.std.specs.Prelude.{◌≡◌, ℕ, ◌-◌, ◌≤◌, ⊤, List, length, drop, All, Option, Some, None, slice_get}
-use Rattle.cl_link.specs.LinkState.{LinkState, last_number, unacknowledged}
+use Rattle.cl_link.specs.LinkState.{LinkState, last_number, unacknowledged, after_heard, after_accept}
 
 -- what a packet carries for a link: a message with its number, or none, and how many of the receiver's messages its sender has accepted
 pub record LinkPacket (B : Type 0) : Type 0 where
   pub message : Option (ℕ × B)
   pub ack : ℕ
+
+-- one end of a link after a packet came: one with a message, or one with an acknowledgement alone
+abbrev pub after_packet : {B : Type 0} → LinkState B → Option (ℕ × B) → ℕ → LinkState B
+after_packet s None ack = after_heard s ack
+after_packet s (Some m) ack = after_accept s m.0 ack
 
 -- the message, if there is one, is that which was given under its number
 abbrev pub IsGiven : {B : Type 0} → List B → Option (ℕ × B) → Type 0

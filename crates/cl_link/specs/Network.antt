@@ -2,8 +2,8 @@
 use Rattle.std.specs.Prelude.{◌≡◌, ℕ, ◌^◌, ◌≤◌, Bool, true, false, ◌&&◌, ◌==◌, if◌then◌else◌, List, [], ◌∷◌, ◌++◌, length, drop, remove, fold, Option, Some, None, slice_get}
 use Rattle.cl_link.specs.declared.link.Taken.{Taken}
 use Rattle.cl_link.specs.declared.link.Taken.TheVariants.{Now, Old, Gap}
-use Rattle.cl_link.specs.LinkState.{LinkState, no_message, last_number, unacknowledged, due_of, taken_of, after_send, after_sent, after_again, after_heard, after_accept, after_drop_all}
-use Rattle.cl_link.specs.LinkPair.{LinkPacket, LinkPair}
+use Rattle.cl_link.specs.LinkState.{LinkState, no_message, last_number, unacknowledged, due_of, taken_of, after_send, after_sent, after_again, after_drop_all}
+use Rattle.cl_link.specs.LinkPair.{LinkPacket, LinkPair, after_packet}
 
 -- one end of a link, and what happened there so far
 pub record LinkEnd (B : Type 0) : Type 0 where
@@ -41,20 +41,21 @@ pub data LinkAct (B : Type 0) : Type 0 where
 abbrev pub packet_of : {B : Type 0} → LinkState B → LinkPacket B
 packet_of s = record { message = due_of s; ack = s.accepted }
 
+-- exactly what comes now is put to what was accepted
 abbrev pub took_after : {B : Type 0} → Taken → List B → B → List B
 took_after Now took body = took ++ body ∷ []
 took_after Old took body = took
 took_after Gap took body = took
 
--- a message comes, or none, with an acknowledgement
-abbrev pub after_message : {B : Type 0} → LinkEnd B → Option (ℕ × B) → ℕ → LinkEnd B
-after_message end None ack = record end { link = after_heard end.link ack }
-after_message end (Some m) ack =
-    record end { link = after_accept end.link m.0 ack; took = took_after (taken_of end.link m.0) end.took m.1 }
+-- what was accepted, once a message has come, or none
+abbrev pub took_with : {B : Type 0} → LinkEnd B → Option (ℕ × B) → List B
+took_with end None = end.took
+took_with end (Some m) = took_after (taken_of end.link m.0) end.took m.1
 
-abbrev pub after_packet : {B : Type 0} → LinkEnd B → Option (LinkPacket B) → LinkEnd B
-after_packet end None = end
-after_packet end (Some p) = after_message end p.message p.ack
+-- a packet comes, if there is one
+abbrev pub after_coming : {B : Type 0} → LinkEnd B → Option (LinkPacket B) → LinkEnd B
+after_coming end None = end
+after_coming end (Some p) = record end { link = after_packet end.link p.message p.ack; took = took_with end p.message }
 
 -- an end after an act there, with the end of the peer
 unfoldable pub after_act : {B : Type 0} → LinkAct B → LinkEnd B → LinkEnd B → LinkEnd B
@@ -63,7 +64,7 @@ after_act (Give body) end peer =
 after_act (Mark number) end peer = record end { link = after_sent end.link number }
 after_act Tick end peer = record end { link = after_again end.link }
 after_act Emit end peer = record end { out = end.out ++ packet_of end.link ∷ [] }
-after_act (Comes place) end peer = after_packet end (slice_get peer.out place)
+after_act (Comes place) end peer = after_coming end (slice_get peer.out place)
 after_act (Lose place) end peer = record end { out = remove end.out place }
 after_act Drop end peer = record end { link = after_drop_all end.link; dropped = true }
 
