@@ -1,3 +1,5 @@
+mod Examples
+pub mod DueMessages
 pub mod KeptLemmas
 pub mod LinkLemmas
 pub mod LinkStates

@@ -143,7 +143,7 @@ later b bs number m found =
     (omega arith, rw next found.1)
 
 -- the first due message is one of these, under its number
-first_due_kept : {B : Type 0} (ms : List (Kept B)) (number : ℕ) (m : ℕ × B) → first_due number ms ≡ Some m → (number ≤ m.0) × (slice_get (map (λ (k : Kept B). k.body) ms) (m.0 - number) ≡ Some m.1)
+pub first_due_kept : {B : Type 0} (ms : List (Kept B)) (number : ℕ) (m : ℕ × B) → first_due number ms ≡ Some m → (number ≤ m.0) × (slice_get (map (λ (k : Kept B). k.body) ms) (m.0 - number) ≡ Some m.1)
 unfolding first_due
 first_due_kept [] number m found = cc
 first_due_kept {B} (x ∷ ms) number m found =

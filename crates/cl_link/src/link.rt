@@ -92,6 +92,8 @@ impl<B> Link<B> {
     }
 
     /// The message of this number was sent: it is no longer due. Nothing changes where it is not kept.
+    ///
+    /// In the order in which messages are due it takes constant time.
     #[tactic(auto, unfolding(crate::specs::LinkState::after_sent))]
     pub fn sent(&mut self, seq: u64)
         ensures { self.new ≡ after_sent self.old seq }
@@ -104,7 +106,7 @@ impl<B> Link<B> {
         self.due = place_of_due(&self.kept, self.due);
     }
 
-    /// Each message that is not acknowledged is due again.
+    /// Each message that is not acknowledged is due again. It takes time for each of them.
     #[tactic(auto, unfolding(crate::specs::LinkState::after_again))]
     pub fn again(&mut self)
         ensures { self.new ≡ after_again self.old }
@@ -136,6 +138,8 @@ impl<B> Link<B> {
     }
 
     /// A packet comes that carries an acknowledgement alone: what it acknowledges is dropped.
+    ///
+    /// One above the last number covers each message. It takes constant time, and so much more for each message dropped.
     #[tactic(auto, unfolding(crate::specs::LinkState::after_heard))]
     pub fn heard(&mut self, ack: u64)
     where
@@ -150,11 +154,19 @@ impl<B> Link<B> {
         self.due = place_of_due(&self.kept, self.due.saturating_sub(covered as usize));
     }
 
-    /// The number of the last message accepted from the peer, or 0.
+    /// The number of the last message accepted from the peer, or 0 where none was accepted.
     pub fn accepted(&self) -> u64
         ensures { result ≡ self.now.accepted }
     {
         self.accepted
+    }
+
+    /// The number of the last message given, or 0 where none was given.
+    pub fn last_number(&self) -> u64
+        ensures number { result ≡ last_number self.now }
+        ensures within { result ≤ 2 ^ 62 }
+    {
+        self.released + self.kept.len() as u64
     }
 
     /// How many messages are kept: given, and not acknowledged.
@@ -164,15 +176,7 @@ impl<B> Link<B> {
         self.kept.len()
     }
 
-    // The number of the last message given, or 0.
-    fn last_number(&self) -> u64
-        ensures number { result ≡ last_number self.now }
-        ensures within { result ≤ 2 ^ 62 }
-    {
-        self.released + self.kept.len() as u64
-    }
-
-    /// Drops each message that is kept: the peer stopped.
+    /// Drops each message that is kept, since the peer stopped. The numbers go on.
     #[tactic(auto, unfolding(crate::specs::LinkState::after_drop_all))]
     pub fn drop_all(&mut self)
     where

@@ -1,14 +1,14 @@
 //! Exchanges with values worked out by hand.
 use crate::{Link, Taken, in_order_and_once};
+use cl_types::NoMemory;
+use std::alloc::Global;
 use std::test::Fail;
 
 // A step of an exchange over a network that loses, repeats and reorders.
 #[derive(Clone, Copy)]
 enum Step {
-    // The sender emits its due message, of this number.
-    Emits(u64),
-    // Nothing is due at the sender.
-    NothingDue,
+    // The sender emits its due message, which has this number, or has none.
+    Emits(Option<u64>),
     // The packet that was emitted at this place comes; then so many are accepted.
     Comes(usize, Taken, u64),
     // The sender hears an acknowledgement; then so many messages are kept.
@@ -18,77 +18,112 @@ enum Step {
 }
 
 // Of the packets, counted from 0, 1 and 7 are lost, 2, 4 and 6 come too early, 0 and 6 come twice, and 3 comes late.
-const EXCHANGE: [Step; 32] = [
-    Step::Emits(1),
-    Step::Emits(2),
-    Step::Emits(3),
-    Step::Emits(4),
-    Step::Emits(5),
-    Step::NothingDue,
+const FATES: [Step; 32] = [
+    Step::Emits(Some(1)),
+    Step::Emits(Some(2)),
+    Step::Emits(Some(3)),
+    Step::Emits(Some(4)),
+    Step::Emits(Some(5)),
+    Step::Emits(None),
     Step::Comes(0, Taken::Now, 1),
     Step::Comes(2, Taken::Gap, 1),
     Step::Comes(4, Taken::Gap, 1),
     Step::Hears(1, 4),
-    Step::NothingDue,
+    Step::Emits(None),
     Step::Tick,
-    Step::Emits(2),
-    Step::Emits(3),
+    Step::Emits(Some(2)),
+    Step::Emits(Some(3)),
     Step::Comes(6, Taken::Gap, 1),
     Step::Comes(5, Taken::Now, 2),
     Step::Comes(6, Taken::Now, 3),
     Step::Comes(0, Taken::Old, 3),
     Step::Comes(3, Taken::Now, 4),
     Step::Hears(2, 3),
-    Step::Emits(4),
+    Step::Emits(Some(4)),
     Step::Hears(4, 1),
     Step::Hears(2, 1),
-    Step::Emits(5),
-    Step::NothingDue,
+    Step::Emits(Some(5)),
+    Step::Emits(None),
     Step::Tick,
-    Step::Emits(5),
+    Step::Emits(Some(5)),
     Step::Comes(9, Taken::Now, 5),
     Step::Comes(8, Taken::Old, 5),
     Step::Hears(5, 0),
     Step::Tick,
-    Step::NothingDue,
+    Step::Emits(None),
 ];
+
+#[derive(Drop)]
+struct Exchange {
+    sender: Link<u32>,
+    receiver: Link<u32>,
+    // Every packet that was emitted: its number and its message.
+    packets: Vec<(u64, u32)>,
+    took: Vec<u32>,
+}
+
+impl Exchange {
+    fn new(alloc: Global) -> Exchange {
+        Exchange {
+            sender: Link::new(alloc),
+            receiver: Link::new(alloc),
+            packets: Vec::new(alloc),
+            took: Vec::new(alloc),
+        }
+    }
+
+    fn emit(&mut self) -> Result<Option<u64>, NoMemory> {
+        let Some((number, body)) = self.sender.due() else {
+            return Ok(None);
+        };
+        self.packets.push((number, *body))?;
+        self.sender.sent(number);
+        Ok(Some(number))
+    }
+
+    fn come(&mut self, place: usize) -> Result<Option<Taken>, NoMemory> {
+        match self.packets.get(place) {
+            Some(&(number, body)) if number >= 1 => {
+                let taken = self.receiver.accept(number, 0);
+                if taken == Taken::Now {
+                    self.took.push(body)?;
+                }
+                Ok(Some(taken))
+            }
+            _ => Ok(None),
+        }
+    }
+}
 
 #[test]
 fn five_messages_over_a_lossy_network(rt: HostRuntime) -> Result<(), Fail> {
-    let mut sender = Link::new(rt.alloc());
-    let mut receiver: Link<u32> = Link::new(rt.alloc());
-    let mut packets = Vec::new(rt.alloc());
-    let mut took = Vec::new(rt.alloc());
+    let mut exchange = Exchange::new(rt.alloc());
     for body in [10, 20, 30, 40, 50] {
-        sender.send(body)?;
+        exchange.sender.send(body)?;
     }
-    for step in EXCHANGE {
+    for step in FATES {
         match step {
-            Step::Emits(number) => {
-                let (due, body) = sender.due().ok_or("nothing is due")?;
-                assert_eq!(rt; due, number);
-                packets.push((due, *body))?;
-                sender.sent(due);
-            }
-            Step::NothingDue => assert!(rt; sender.due().is_none()),
+            Step::Emits(number) => assert_eq!(rt; exchange.emit()?, number),
             Step::Comes(place, taken, accepted) => {
-                let (number, body) = packets.get(place).copied().ok_or("no such packet")?;
-                assert!(rt; number >= 1);
-                let answer = receiver.accept(number, 0);
-                assert_eq!(rt; answer, taken, "packet {place}");
-                assert_eq!(rt; receiver.accepted(), accepted, "after packet {place}");
-                if answer == Taken::Now {
-                    took.push(body)?;
-                }
+                assert_eq!(rt; exchange.come(place)?, Some(taken), "packet {place}");
+                assert_eq!(rt;
+                    exchange.receiver.accepted(),
+                    accepted,
+                    "after packet {place}"
+                );
             }
             Step::Hears(ack, unacked) => {
-                sender.heard(ack);
-                assert_eq!(rt; sender.unacked(), unacked, "after acknowledgement {ack}");
+                exchange.sender.heard(ack);
+                assert_eq!(rt;
+                    exchange.sender.unacked(),
+                    unacked,
+                    "after acknowledgement {ack}"
+                );
             }
-            Step::Tick => sender.again(),
+            Step::Tick => exchange.sender.again(),
         }
     }
-    assert_eq!(rt; took.as_slice(), [10, 20, 30, 40, 50].as_slice());
+    assert_eq!(rt; exchange.took.as_slice(), [10, 20, 30, 40, 50].as_slice());
     Ok(())
 }
 
