@@ -6,14 +6,14 @@ use std::collections::VecDeque;
 
 /// A message that is kept until it is acknowledged.
 #[derive(Debug, Drop)]
-pub struct Kept<B> {
-    pub body: B,
+pub(crate) struct Kept<B> {
+    pub(crate) body: B,
     /// Whether it was never sent, or is to be sent again.
-    pub due: bool,
+    pub(crate) due: bool,
 }
 
 // The place of the first due message, or the number of messages where none is due. None before `from` is due.
-pub fn place_of_due<B>(kept: &VecDeque<Kept<B>>, from: usize) -> usize
+pub(crate) fn place_of_due<B>(kept: &VecDeque<Kept<B>>, from: usize) -> usize
     requires { from ≤ due_place kept.now.items }
     ensures { result ≡ due_place kept.now.items }
 {
@@ -26,7 +26,7 @@ pub fn place_of_due<B>(kept: &VecDeque<Kept<B>>, from: usize) -> usize
 }
 
 // The message at a place is no longer due.
-pub fn mark_sent<B>(kept: &mut VecDeque<Kept<B>>, place: usize)
+pub(crate) fn mark_sent<B>(kept: &mut VecDeque<Kept<B>>, place: usize)
     requires { place < length kept.old.items }
     ensures { kept.new.items ≡ sent_at kept.old.items place }
 {
@@ -34,7 +34,7 @@ pub fn mark_sent<B>(kept: &mut VecDeque<Kept<B>>, place: usize)
 }
 
 // Each message is due.
-pub fn mark_all_due<B>(kept: &mut VecDeque<Kept<B>>)
+pub(crate) fn mark_all_due<B>(kept: &mut VecDeque<Kept<B>>)
     ensures { kept.new.items ≡ all_due kept.old.items }
 {
     mark_each_due(kept.make_contiguous());
@@ -49,7 +49,7 @@ fn mark_each_due<B>(messages: &mut [Kept<B>])
 }
 
 // Drops the first messages.
-pub fn drop_front<B: Drop>(kept: &mut VecDeque<Kept<B>>, count: usize)
+pub(crate) fn drop_front<B: Drop>(kept: &mut VecDeque<Kept<B>>, count: usize)
     requires { count ≤ length kept.old.items }
     ensures { kept.new.items ≡ drop count kept.old.items }
 {
