@@ -200,5 +200,5 @@ in_order_and_once events = record {
   acknowledged = λ actor peer alive.
       let ends = network-holds events actor peer in
       omega (arith, (ends.acks alive).released, ap length ends.took, length-take-le _ _ ends.order.accepted);
-  kept = λ actor peer alive. (network-holds events actor peer).order.kept;
+  kept = λ actor peer. (network-holds events actor peer).order.kept;
 }

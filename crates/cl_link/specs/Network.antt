@@ -41,7 +41,7 @@ pub data LinkAct (B : Type 0) : Type 0 where
 abbrev pub packet_of : {B : Type 0} → LinkState B → LinkPacket B
 packet_of s = record { message = due_of s; ack = s.accepted }
 
--- exactly what comes now is put to what was accepted
+-- exactly what is accepted now comes after what was accepted before
 abbrev pub took_after : {B : Type 0} → Taken → List B → B → List B
 took_after Now took body = took ++ body ∷ []
 took_after Old took body = took
@@ -97,8 +97,8 @@ pub record InOrderAndOnce {B : Type 0} (network : Network B) : Type 0 where
   pub in_order : (actor peer : ℕ) → IsPrefixOf (network actor peer).took (network peer actor).given
   -- a message that counts as acknowledged was accepted
   pub acknowledged : (actor peer : ℕ) → (network peer actor).dropped ≡ false → (network peer actor).link.released ≤ length (network actor peer).took
-  -- each other message is kept
-  pub kept : (actor peer : ℕ) → (network peer actor).dropped ≡ false → unacknowledged (network peer actor).link ≡ drop (network peer actor).link.released (network peer actor).given
+  -- each message after these is kept
+  pub kept : (actor peer : ℕ) → unacknowledged (network peer actor).link ≡ drop (network peer actor).link.released (network peer actor).given
 
 -- whatever is given, marked, emitted, lost, repeated or reordered, each link is in order and once
 abbrev pub LinksInOrderAndOnce : Type 0 → Type 0
