@@ -1,0 +1,9 @@
+mod Examples
+pub mod DueMessages
+pub mod KeptLemmas
+pub mod LinkLemmas
+pub mod LinkStates
+pub mod Places
+pub mod LinkOrders
+pub mod LinkPairs
+pub mod Networks

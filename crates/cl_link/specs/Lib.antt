@@ -1,0 +1,4 @@
+pub mod Kept
+pub mod LinkPair
+pub mod LinkState
+pub mod Network

@@ -1,0 +1,190 @@
+//! One end of a link.
+ghost use Rattle.std.specs.Prelude.{◌≡◌, ◌+◌, ◌^◌, ◌≤◌, ◌↔◌, length, Err, IfOk, OnOk, OnErr};
+ghost use Rattle.cl_link.specs.LinkState.{no_message, last_number, due_of, due_read, taken_of, after_send, after_sent, after_again, after_accept, after_heard, after_drop_all};
+
+use crate::kept::{Kept, drop_front, mark_all_due, mark_sent, place_of_due};
+use cl_types::Refused;
+use std::alloc::Global;
+use std::collections::VecDeque;
+use std::marker::Model;
+
+/// The highest number that a message may have.
+pub const LAST_NUMBER: u64 = 1 << 62;
+
+/// What became of a numbered message that came.
+#[derive(Clone, Copy, Debug, PartialEq, Eq)]
+pub enum Taken {
+    /// It is the next one, and is accepted now.
+    Now,
+    /// It was accepted before.
+    Old,
+    /// One before it has not come yet.
+    Gap,
+}
+
+/// One end of a link: the messages to its peer, and how many were accepted from it.
+///
+/// Messages are numbered from 1 by the order in which they are given. Each is kept until it is acknowledged.
+#[derive(Debug, Drop)]
+pub struct Link<B> {
+    kept: VecDeque<Kept<B>>,
+    /// How many messages, from the first on, are no longer kept.
+    released: u64,
+    /// The place in `kept` of the least due message, or its length where none is due.
+    due: usize,
+    accepted: u64,
+}
+
+impl<B> Model for Link<B> {
+    ghost use Rattle.std.specs.Prelude.{◌≡◌, ◌+◌, ◌^◌, ◌≤◌, length};
+    ghost use Rattle.cl_link.specs.LinkState.{LinkState};
+    ghost use Rattle.cl_link.specs.Kept.{due_place};
+
+    ghost Value = { LinkState B };
+
+    ghost view = { λ link. record { released = link.released; kept = link.kept.items; accepted = link.accepted } };
+
+    ghost invariant = { λ link. (link.released + length link.kept.items ≤ 2 ^ 62) × (link.due ≡ due_place link.kept.items) };
+}
+
+impl<B> Link<B> {
+    /// A link on which nothing was given and nothing accepted. It takes no memory.
+    pub fn new(alloc: Global) -> Self
+        ensures { result ≡ no_message }
+    {
+        Link {
+            kept: VecDeque::new(alloc),
+            released: 0,
+            due: 0,
+            accepted: 0,
+        }
+    }
+
+    /// Gives a message to the link, which keeps it until it is acknowledged. It is due. Answers its number.
+    ///
+    /// After a refusal the link is as before, and the message is dropped.
+    #[tactic(auto, unfolding(crate::specs::LinkState::after_send))]
+    pub fn send(&mut self, body: B) -> Result<u64, Refused>
+    where
+        B: Drop,
+        ensures number { IfOk result (λ number. number ≡ last_number self.new) }
+        ensures ok { OnOk result (self.new ≡ after_send self.old body) }
+        ensures err { OnErr result (self.new ≡ self.old) }
+        ensures spent { (result ≡ Err Refused.Spent) ↔ (last_number self.old ≡ 2 ^ 62) }
+        ensures within { last_number self.new ≤ 2 ^ 62 }
+    {
+        let last = self.last_number();
+        if last == LAST_NUMBER {
+            return Err(Refused::Spent);
+        }
+        match self.kept.push_back(Kept { body, due: true }) {
+            Ok(()) => Ok(last + 1),
+            Err(_) => Err(Refused::NoMemory),
+        }
+    }
+
+    /// The due message with the least number, and that number. It takes constant time.
+    pub fn due(&self) -> Option<(u64, &B)>
+        ensures { due_read result ≡ due_of self.now }
+    {
+        let message = self.kept.get(self.due)?;
+        Some((self.released + 1 + self.due as u64, &message.body))
+    }
+
+    /// The message of this number was sent: it is no longer due. Nothing changes where it is not kept.
+    ///
+    /// In the order in which messages are due it takes constant time.
+    #[tactic(auto, unfolding(crate::specs::LinkState::after_sent))]
+    pub fn sent(&mut self, seq: u64)
+        ensures { self.new ≡ after_sent self.old seq }
+    {
+        if seq <= self.released || self.last_number() < seq {
+            return;
+        }
+        let place = (seq - self.released - 1) as usize;
+        mark_sent(&mut self.kept, place);
+        self.due = place_of_due(&self.kept, self.due);
+    }
+
+    /// Each message that is not acknowledged is due again. It takes time for each of them.
+    #[tactic(auto, unfolding(crate::specs::LinkState::after_again))]
+    pub fn again(&mut self)
+        ensures { self.new ≡ after_again self.old }
+    {
+        mark_all_due(&mut self.kept);
+        self.due = 0;
+    }
+
+    /// A message of the peer comes, of this number and with this acknowledgement. Exactly the next one is accepted.
+    ///
+    /// What is acknowledged is dropped, whatever becomes of the message.
+    #[tactic(auto, unfolding(crate::specs::LinkState::after_accept, crate::specs::LinkState::after_heard, crate::specs::LinkState::taken_of))]
+    pub fn accept(&mut self, seq: u64, ack: u64) -> Taken
+    where
+        B: Drop,
+        requires { 1 ≤ seq }
+        ensures taken { result ≡ taken_of self.old seq }
+        ensures after { self.new ≡ after_accept self.old seq ack }
+    {
+        self.heard(ack);
+        if seq <= self.accepted {
+            return Taken::Old;
+        }
+        if seq - 1 > self.accepted {
+            return Taken::Gap;
+        }
+        self.accepted = seq;
+        Taken::Now
+    }
+
+    /// A packet comes that carries an acknowledgement alone: what it acknowledges is dropped.
+    ///
+    /// One above the last number covers each message. It takes constant time, and so much more for each message dropped.
+    #[tactic(auto, unfolding(crate::specs::LinkState::after_heard))]
+    pub fn heard(&mut self, ack: u64)
+    where
+        B: Drop,
+        ensures { self.new ≡ after_heard self.old ack }
+    {
+        let covered = ack
+            .saturating_sub(self.released)
+            .min(self.kept.len() as u64);
+        drop_front(&mut self.kept, covered as usize);
+        self.released += covered;
+        self.due = place_of_due(&self.kept, self.due.saturating_sub(covered as usize));
+    }
+
+    /// The number of the last message accepted from the peer, or 0 where none was accepted.
+    pub fn accepted(&self) -> u64
+        ensures { result ≡ self.now.accepted }
+    {
+        self.accepted
+    }
+
+    /// The number of the last message given, or 0 where none was given.
+    pub fn last_number(&self) -> u64
+        ensures number { result ≡ last_number self.now }
+        ensures within { result ≤ 2 ^ 62 }
+    {
+        self.released + self.kept.len() as u64
+    }
+
+    /// How many messages are kept: given, and not acknowledged.
+    pub fn unacked(&self) -> usize
+        ensures { result ≡ length self.now.kept }
+    {
+        self.kept.len()
+    }
+
+    /// Drops each message that is kept, since the peer stopped. The numbers go on.
+    #[tactic(auto, unfolding(crate::specs::LinkState::after_drop_all))]
+    pub fn drop_all(&mut self)
+    where
+        B: Drop,
+        ensures { self.new ≡ after_drop_all self.old }
+    {
+        self.released = self.last_number();
+        self.kept.clear();
+        self.due = 0;
+    }
+}
