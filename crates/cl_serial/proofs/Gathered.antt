@@ -1,9 +1,9 @@
 -- Questions, answers and exchanges of a transcript with one more entry.
-use Rattle.std.proofs.Common.{◌≡◌, ℕ, zero, suc, ◌+◌, ◌<◌, ◌≤◌, List, [], ◌∷◌, ◌++◌, length, Option, Some, None, refl, sym, ◌∙◌, ap, arith, rules, append_assoc}
+use Rattle.std.proofs.Common.{◌≡◌, ℕ, suc, ◌+◌, ◌≤◌, List, [], ◌∷◌, ◌++◌, length, Some, None, refl, sym, ◌∙◌, ap, arith, append_assoc}
 use Rattle.std.proofs.lemmas.List.{append-nil}
 use Rattle.cl_types.specs.declared.operations.Command.{Command}
 use Rattle.cl_types.specs.declared.answers.Outcome.{Outcome}
-use Rattle.cl_serial.specs.Transcript.{Entry, fed, written, gather, questions, answers, asked_in, answered_in, fed_line, fed_lines}
+use Rattle.cl_serial.specs.Transcript.{Entry, fed, written, gather, fed_line, fed_lines}
 use Rattle.cl_lines.specs.declared.out.Out.{Out}
 use Rattle.cl_serial.specs.Exchanges.{Exchange, pair_up, in_turn}
 

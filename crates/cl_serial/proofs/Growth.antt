@@ -1,11 +1,11 @@
 -- What a transaction has of commands stays, whatever the session does next.
-use Rattle.std.proofs.Common.{◌≡◌, ℕ, zero, suc, ◌+◌, Bool, true, false, List, [], ◌∷◌, ◌++◌, length, Option, Some, None, refl, sym, ◌∙◌, ap, subst, if◌then◌else◌}
+use Rattle.std.proofs.Common.{ℕ, zero, suc, Bool, true, false, List, [], ◌∷◌, ◌++◌, Option, Some, None, sym, subst, if◌then◌else◌}
 use Rattle.std.specs.Option.{option_to_list}
 use Rattle.std.specs.List.{slice_get}
 use Rattle.std.proofs.lemmas.List.{append-nil}
 use Rattle.cl_serial.specs.Exchanges.{Exchange, outcome_of}
 use Rattle.cl_serial.specs.Transactions.{Transaction, Session, session_step, with_command, commands_in, numbered, is_begin, is_end, is_passed_over}
-use Rattle.cl_serial.specs.Serial.{StandsAt, IsIn}
+use Rattle.cl_serial.specs.Serial.{IsIn}
 use Rattle.cl_serial.proofs.Places.{IsIn-append_left, IsIn-nil}
 
 -- the transactions of a session, the one that it is in last

@@ -1,3 +1,4 @@
+pub mod Examples
 pub mod Gathered
 pub mod Growth
 pub mod LineLemmas

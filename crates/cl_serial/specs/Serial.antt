@@ -1,16 +1,16 @@
 -- What the kept history promises of a transcript.
-use Rattle.std.specs.Prelude.{◌≡◌, ℕ, ◌<◌, ◌≤◌, List, [], ◌∷◌, ◌++◌, length, Option, Some, None, IsSome, slice_get, take, ◌↔◌}
+use Rattle.std.specs.Prelude.{◌≡◌, ℕ, ◌<◌, List, length, Some, None, IsSome, slice_get, take, ◌↔◌}
 use Rattle.std.specs.List.{flat_map}
 use Rattle.cl_types.specs.declared.operations.Command.{Command}
 use Rattle.cl_types.specs.declared.operations.Command.TheVariants.{Begin, Work, Commit, Abort}
 use Rattle.cl_types.specs.declared.operations.TxnId.{TxnId}
 use Rattle.cl_types.specs.declared.answers.AbortCause.{AbortCause}
 use Rattle.cl_types.specs.declared.answers.Outcome.{Outcome}
-use Rattle.cl_types.specs.declared.answers.Outcome.TheVariants.{Done, Begun, Committed, Aborted, NotTxn, InTxn, Full}
+use Rattle.cl_types.specs.declared.answers.Outcome.TheVariants.{Committed, Aborted, NotTxn, InTxn, Full}
 use Rattle.cl_lines.specs.declared.line.LineFault.{LineFault}
 use Rattle.cl_lines.specs.declared.out.Out.TheVariants.{Answer, BadLine}
 use Rattle.cl_lines.specs.Line.{fault_of}
-use Rattle.cl_serial.specs.Transcript.{Entry, fed, written, quiet, questions, answers}
+use Rattle.cl_serial.specs.Transcript.{Entry, fed, written, questions, answers}
 use Rattle.cl_serial.specs.Exchanges.{Exchange, exchanges, outcome_of}
 use Rattle.cl_serial.specs.Transactions.{Transaction, Session, session_after, transaction_of, commands_of}
 use Rattle.cl_serial.specs.PlainMap.{Operation, operations, no_values, RepliesAgree}

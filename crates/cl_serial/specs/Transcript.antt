@@ -1,15 +1,14 @@
 -- The transcript: what was fed and what was written, in order. A place in it is counted from 0.
-use Rattle.std.specs.Prelude.{◌≡◌, ℕ, suc, ◌<◌, List, [], ◌∷◌, ◌++◌, map, nat_eq, if◌then◌else◌, Option, Some, None, slice_get}
+use Rattle.std.specs.Prelude.{ℕ, suc, List, [], ◌∷◌, ◌++◌, map, nat_eq, if◌then◌else◌, Option, Some, None}
 use Rattle.std.specs.List.{flat_map}
 use Rattle.cl_types.specs.GrowingList.{items}
 use Rattle.cl_types.specs.AppendOnlyList.{entries}
 use Rattle.cl_types.specs.declared.append_only_list.AppendOnlyList.{AppendOnlyList}
 use Rattle.cl_types.specs.declared.operations.Command.{Command}
 use Rattle.cl_types.specs.declared.answers.Outcome.{Outcome}
-use Rattle.cl_lines.specs.declared.line.LineFault.{LineFault}
 use Rattle.cl_lines.specs.declared.out.Out.{Out}
 use Rattle.cl_lines.specs.declared.out.Out.TheVariants.{Answer, BadLine}
-use Rattle.cl_lines.specs.Line.{client_of, fault_of}
+use Rattle.cl_lines.specs.Line.{client_of}
 use Rattle.cl_lines.specs.Out.{text_of}
 use Rattle.cl_serial.specs.declared.transcript.Said.{Said}
 use Rattle.cl_serial.specs.declared.transcript.Said.TheVariants as said
