@@ -1,0 +1,42 @@
+-- What follows where the links agree with the lists.
+use Rattle.std.proofs.Common.{◌≡◌, ◌≢◌, ◌⊎◌, ℕ, ◌<◌, Bool, true, false, List, [], Option, Some, None, length, get_or, refl, sym, ap, subst, ◌∙◌, arith, inl, inr}
+use Rattle.std.proofs.lemmas.List.{get_or_past}
+use Rattle.std.proofs.lemmas.Bool.{cases_eq, cases_lt}
+use Rattle.cl_lists.specs.declared.slots.Link.{Link}
+use Rattle.cl_lists.specs.declared.slots.Ends.{Ends}
+use Rattle.cl_lists.specs.SlotList.{has}
+use Rattle.cl_lists.specs.Lists.{list_at}
+use Rattle.cl_lists.specs.Links.{IsInside, IsPlace, IsLinked}
+
+-- two places are the same or not
+pub cases_place : (a b : Option ℕ) → (a ≡ b) ⊎ (a ≢ b)
+cases_place None None = inl refl
+cases_place None (Some b) = inr (λ e. grind arith)
+cases_place (Some a) None = inr (λ e. grind arith)
+cases_place (Some a) (Some b) = elim (cases_eq a b) [ inl e ↦ inl (ap Some e) | inr differ ↦ inr (λ e. differ (grind arith)) ]
+
+module _ (links : List Link) (ends : List Ends) (used : List Bool) (lists : List (List ℕ)) (linked : IsLinked links ends used lists) where
+  -- a slot on a list is one of the slots
+  pub inside-linked : (number slot : ℕ) → has (list_at lists number) slot ≡ true → slot < length links
+  inside-linked number slot there =
+      elim (cases_lt slot (length links)) [ inl below ↦ below | inr past ↦ absurd (grind (arith, get_or_past used slot false, linked.as_long, linked.in_use number slot there)) ]
+
+  -- a list with a slot is one of the lists
+  pub exists-linked : (number slot : ℕ) → has (list_at lists number) slot ≡ true → number < length lists
+  exists-linked number slot there =
+      elim (cases_lt number (length lists)) [ inl below ↦ below | inr past ↦ absurd (grind (arith, get_or_past lists number [], there)) ]
+
+  pub IsInside-linked : (number : ℕ) (place : Option ℕ) → number < length ends → IsPlace (list_at lists number) place → IsInside links ends number place
+  IsInside-linked number None exists there = exists
+  IsInside-linked number (Some slot) exists there = inside-linked number slot there
+
+  -- a slot that is not in use is on no list
+  pub absent-linked : (number slot : ℕ) → get_or used slot false ≡ false → has (list_at lists number) slot ≡ false
+  absent-linked number slot free = grind (arith, linked.in_use number slot)
+
+  -- two lists have no slot in common
+  pub apart-linked : (number other : ℕ) (at place : Option ℕ) → other ≢ number → IsPlace (list_at lists number) at → IsPlace (list_at lists other) place → (slot : ℕ) → place ≡ Some slot → at ≡ Some slot → ⊥
+  apart-linked number other at place differ here there slot is_place is_at =
+      let on_other = linked.numbered other slot (subst (IsPlace (list_at lists other)) is_place there) in
+      let on_this = linked.numbered number slot (subst (IsPlace (list_at lists number)) is_at here) in
+      differ (sym on_other ∙ on_this)

@@ -1,0 +1,23 @@
+use Rattle.std.proofs.Common.{None, false, arith, sym, ap, ◌∙◌}
+use Rattle.cl_lists.specs.Entries.{item_of, is_item}
+use Rattle.cl_lists.specs.Arena.{item_at}
+use Rattle.cl_lists.proofs.ArenaFacts.{inside-in_use, used-in_use}
+use Rattle.cl_lists.proofs.EntryWrites.{contents_read}
+use Rattle.cl_lists.proofs.arena.Arena.get.Goals as goal
+
+pub index-requires : goal.index-requires
+index-requires g c =
+    let inside = inside-in_use c.args.self.now c.args.slot c.requires in
+    omega (arith, inside, c.slot.view_is, c.args.self.now.slots.ok.0)
+
+pub unreachable-requires : goal.unreachable-requires
+unreachable-requires g c =
+    let read = contents_read is_item c.args.self.now.slots.items c.slot.inside.index c.args.slot c.index.result.now false c.slot.view_is (inside-in_use c.args.self.now c.args.slot c.requires) in
+    grind (arith, read, used-in_use c.args.self.now c.args.slot c.requires, ap (λ e. is_item e.content) c.index.ensures, ap is_item c.in-Free.is)
+
+pub returns : goal.returns
+unfolding item_at
+returns g c =
+    contents_read item_of c.args.self.now.slots.items c.slot.inside.index c.args.slot c.index.result.now None c.slot.view_is (inside-in_use c.args.self.now c.args.slot c.requires)
+    ∙ ap (λ e. item_of e.content) (sym c.index.ensures)
+    ∙ ap item_of c.in-Item.is

@@ -1,0 +1,96 @@
+-- How one side links the slots of its lists. No public clause cites this module.
+use Rattle.std.specs.Prelude.{◌≡◌, ◌<◌, ℕ, zero, suc, Bool, true, false, List, [], ◌∷◌, map, length, Option, Some, None, slice_index_or, slice_set}
+use Rattle.cl_lists.specs.SlotList.{has, is_distinct, first_of, last_of, after_in, before_in}
+use Rattle.cl_lists.specs.Lists.{list_at}
+use Rattle.cl_lists.specs.declared.slots.Link.{Link}
+use Rattle.cl_lists.specs.declared.slots.Ends.{Ends}
+
+-- a place of a list is a slot on it, or `None`, which stands before the first slot and after the last one
+abbrev pub IsPlace : List ℕ → Option ℕ → Type 0
+IsPlace list None = Unit {0}
+IsPlace list (Some slot) = has list slot ≡ true
+
+-- the place after a place, and the one before it
+abbrev pub after : List ℕ → Option ℕ → Option ℕ
+after list None = first_of list
+after list (Some slot) = after_in list slot
+
+abbrev pub before : List ℕ → Option ℕ → Option ℕ
+before list None = last_of list
+before list (Some slot) = before_in list slot
+
+-- the links of a slot that is on no list, and the ends of an empty list
+abbrev pub no_link : Link
+no_link = record { prev = None; next = None; list = 0 }
+
+abbrev pub no_ends : Ends
+no_ends = record { first = None; last = None }
+
+-- the links of a slot, and the ends of a list
+abbrev pub link_at : List Link → ℕ → Link
+link_at links slot = slice_index_or links slot no_link
+
+abbrev pub ends_at : List Ends → ℕ → Ends
+ends_at ends number = slice_index_or ends number no_ends
+
+-- what the links say is the place after a place of a list, and the one before it
+abbrev pub next_at : List Link → List Ends → ℕ → Option ℕ → Option ℕ
+next_at links ends number None = (ends_at ends number).first
+next_at links ends number (Some slot) = (link_at links slot).next
+
+abbrev pub prev_at : List Link → List Ends → ℕ → Option ℕ → Option ℕ
+prev_at links ends number None = (ends_at ends number).last
+prev_at links ends number (Some slot) = (link_at links slot).prev
+
+-- the links agree with the lists, and each slot in use is on just one of these
+pub record IsLinked (links : List Link) (ends : List Ends) (used : List Bool) (lists : List (List ℕ)) : Type 0 where
+  pub as_many : length lists ≡ length ends
+  pub as_long : length used ≡ length links
+  pub distinct : (number : ℕ) → is_distinct (list_at lists number) ≡ true
+  pub in_use : (number slot : ℕ) → has (list_at lists number) slot ≡ true → slice_index_or used slot false ≡ true
+  pub listed : (slot : ℕ) → slice_index_or used slot false ≡ true → has (list_at lists (link_at links slot).list) slot ≡ true
+  pub numbered : (number slot : ℕ) → has (list_at lists number) slot ≡ true → (link_at links slot).list ≡ number
+  pub next : (number : ℕ) (place : Option ℕ) → IsPlace (list_at lists number) place → next_at links ends number place ≡ after (list_at lists number) place
+  pub prev : (number : ℕ) (place : Option ℕ) → IsPlace (list_at lists number) place → prev_at links ends number place ≡ before (list_at lists number) place
+
+-- the place is one that there is a link or an end for
+abbrev pub IsInside : List Link → List Ends → ℕ → Option ℕ → Type 0
+IsInside links ends number None = number < length ends
+IsInside links ends number (Some slot) = slot < length links
+
+-- the links and the ends after a write of what comes after a place, or before it
+abbrev pub links_with_next : List Link → Option ℕ → Option ℕ → List Link
+links_with_next links None next = links
+links_with_next links (Some slot) next = slice_set links slot (record (link_at links slot) { next = next })
+
+abbrev pub ends_with_next : List Ends → ℕ → Option ℕ → Option ℕ → List Ends
+ends_with_next ends number None next = slice_set ends number (record (ends_at ends number) { first = next })
+ends_with_next ends number (Some slot) next = ends
+
+abbrev pub links_with_prev : List Link → Option ℕ → Option ℕ → List Link
+links_with_prev links None prev = links
+links_with_prev links (Some slot) prev = slice_set links slot (record (link_at links slot) { prev = prev })
+
+abbrev pub ends_with_prev : List Ends → ℕ → Option ℕ → Option ℕ → List Ends
+ends_with_prev ends number None prev = slice_set ends number (record (ends_at ends number) { last = prev })
+ends_with_prev ends number (Some slot) prev = ends
+
+-- the links and the ends after a slot, which was on no list, comes last on a list
+abbrev pub links_appended : List Link → List Ends → ℕ → ℕ → List Link
+links_appended links ends number slot =
+    let last = (ends_at ends number).last in
+    links_with_next (slice_set links slot (record { prev = last; next = None; list = number })) last (Some slot)
+
+abbrev pub ends_appended : List Ends → ℕ → ℕ → List Ends
+ends_appended ends number slot =
+    ends_with_prev (ends_with_next ends number (ends_at ends number).last (Some slot)) number None (Some slot)
+
+-- the slots that the links lead to from a place on, so many at most
+unfoldable pub walk : List Link → ℕ → Option ℕ → List ℕ
+walk links zero place = []
+walk links (suc most) None = []
+walk links (suc most) (Some slot) = slot ∷ walk links most (link_at links slot).next
+
+-- the lists that the ends and the links say
+unfoldable pub lists_of : List Link → List Ends → List (List ℕ)
+lists_of links ends = map (λ both. walk links (length links) both.first) ends

@@ -1,0 +1,13 @@
+//! Items on linked lists: each item is on one list of each of two sides.
+#![tactic(auto)]
+
+mod arena;
+mod both_sides;
+mod contents;
+mod links;
+mod slots;
+#[cfg(test)]
+mod tests;
+
+pub use arena::Arena;
+pub use slots::{Side, Slot};

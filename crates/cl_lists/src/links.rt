@@ -1,0 +1,125 @@
+//! The lists of one side: the links between slots, and the ends of each list.
+ghost use Rattle.std.specs.Prelude.{◌≡◌, ◌+◌, ◌^◌, ◌<◌, ◌++◌, true, false, length, replicate, slice_index_or, slice_set, vec_len, OnOk, OnErr};
+ghost use Rattle.cl_lists.specs.Entries.{links_on, lists_on_side, used, AreLinked, DifferOn};
+ghost use Rattle.cl_lists.specs.Lists.{appended, removed};
+ghost use Rattle.cl_lists.specs.Links.{IsInside, IsLinked, no_ends, link_at, ends_at, links_with_next, links_with_prev, ends_with_next, ends_with_prev};
+
+use crate::slots::{Ends, Entry, Link, Side, Slot};
+use cl_types::NoMemory;
+
+// The links of a slot on one side.
+pub(crate) fn link<T>(slots: &[Entry<T>], side: Side, slot: Slot) -> Link
+    requires { slot < length slots.now }
+    ensures { result ≡ link_at (links_on side slots.now) slot }
+{
+    slots[slot.index].link(side)
+}
+
+// Writes the links of a slot on one side.
+fn set_link<T>(slots: &mut [Entry<T>], side: Side, slot: Slot, link: &Link)
+    requires { slot < length slots.old }
+    ensures links { links_on side slots.new ≡ slice_set (links_on side slots.old) slot link.now }
+    ensures rest { DifferOn side slots.old slots.new }
+{
+    slots[slot.index].set_link(side, link);
+}
+
+// Writes what comes after a place of a list. `None` is the place before the first slot.
+fn set_next<T>(
+    slots: &mut [Entry<T>],
+    ends: &mut [Ends],
+    side: Side,
+    list: u32,
+    place: Option<Slot>,
+    next: Option<Slot>,
+)
+    requires { IsInside (links_on side slots.old) ends.old list place }
+    ensures links { links_on side slots.new ≡ links_with_next (links_on side slots.old) place next }
+    ensures ends { ends.new ≡ ends_with_next ends.old list place next }
+    ensures rest { DifferOn side slots.old slots.new }
+{
+    match place {
+        Some(slot) => {
+            let old = link(slots, side, slot);
+            set_link(slots, side, slot, &Link { next, ..old });
+        }
+        None => ends[list as usize].first = next,
+    }
+}
+
+// Writes what comes before a place of a list. `None` is the place after the last slot.
+fn set_prev<T>(
+    slots: &mut [Entry<T>],
+    ends: &mut [Ends],
+    side: Side,
+    list: u32,
+    place: Option<Slot>,
+    prev: Option<Slot>,
+)
+    requires { IsInside (links_on side slots.old) ends.old list place }
+    ensures links { links_on side slots.new ≡ links_with_prev (links_on side slots.old) place prev }
+    ensures ends { ends.new ≡ ends_with_prev ends.old list place prev }
+    ensures rest { DifferOn side slots.old slots.new }
+{
+    match place {
+        Some(slot) => {
+            let old = link(slots, side, slot);
+            set_link(slots, side, slot, &Link { prev, ..old });
+        }
+        None => ends[list as usize].last = prev,
+    }
+}
+
+// Puts a slot that is on no list last on one of the side's lists.
+pub(crate) fn append<T>(
+    slots: &mut [Entry<T>],
+    ends: &mut [Ends],
+    side: Side,
+    list: u32,
+    slot: Slot,
+)
+    requires linked { AreLinked side slots.old ends.old }
+    requires list_exists { list < length ends.old }
+    requires slot_exists { slot < length slots.old }
+    requires is_free { slice_index_or (used slots.old) slot false ≡ false }
+    ensures linked { IsLinked (links_on side slots.new) ends.new (slice_set (used slots.old) slot true) (appended (lists_on_side side slots.old ends.old) list slot) }
+    ensures rest { DifferOn side slots.old slots.new }
+{
+    let link = Link {
+        prev: ends[list as usize].last,
+        next: None,
+        list,
+    };
+    set_link(slots, side, slot, &link);
+    set_next(slots, ends, side, list, link.prev, Some(slot));
+    set_prev(slots, ends, side, list, link.next, Some(slot));
+}
+
+// Takes a slot that is in use off its list of the side.
+pub(crate) fn remove<T>(slots: &mut [Entry<T>], ends: &mut [Ends], side: Side, slot: Slot)
+    requires linked { AreLinked side slots.old ends.old }
+    requires in_use { slice_index_or (used slots.old) slot false ≡ true }
+    ensures linked { IsLinked (links_on side slots.new) ends.new (slice_set (used slots.old) slot false) (removed (lists_on_side side slots.old ends.old) slot) }
+    ensures rest { DifferOn side slots.old slots.new }
+{
+    let old = link(slots, side, slot);
+    set_next(slots, ends, side, old.list, old.prev, old.next);
+    set_prev(slots, ends, side, old.list, old.next, old.prev);
+}
+
+// The ends of a list, and those of an empty list where there is no such list.
+pub(crate) fn ends(all: &[Ends], list: u32) -> Ends
+    ensures { result ≡ ends_at all.now list }
+{
+    all.get(list as usize).copied().unwrap_or(Ends::NONE)
+}
+
+// Adds the ends of empty lists.
+pub(crate) fn add_lists(ends: &mut Vec<Ends>, count: u32) -> Result<(), NoMemory>
+    requires { vec_len ends.old + count < 2 ^ 32 }
+    ensures ok { OnOk result (ends.new.items ≡ ends.old.items ++ replicate count no_ends) }
+    ensures err { OnErr result (ends.new.items ≡ ends.old.items) }
+{
+    ends.resize(ends.len() + count as usize, Ends::NONE)?;
+    Ok(())
+}

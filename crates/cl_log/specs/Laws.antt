@@ -1,0 +1,96 @@
+-- What holds of every log: how what follows from it changes with one more record, and what undoing and redoing keep.
+use Rattle.std.specs.Prelude.{◌≡◌, ◌≢◌, ℕ, ◌+◌, ◌≤◌, ◌⊎◌, true, false, List, [], ◌∷◌, ◌++◌, length, Some}
+use Rattle.std.specs.List.{IsDistinct}
+use Rattle.cl_types.specs.declared.operations.Mode.TheVariants.{Exclusive}
+use Rattle.cl_types.specs.declared.operations.TxnId.{TxnId}
+use Rattle.cl_log.specs.Entry.{Entry, IsNumberedFrom, BeginsWith}
+use Rattle.cl_log.specs.Kind.{Place, same_txn, txn_of, is_end, is_mark, can_be_undone, writes, number_before}
+use Rattle.cl_log.specs.Lawful.{IsLawfulLog}
+use Rattle.cl_log.specs.Locks.{takes_lock, locks_after, locks_of_log, HasNoConflict}
+use Rattle.cl_log.specs.Open.{has_ended, is_open, is_among, is_under_way, stage_of, low_of, unended_of}
+use Rattle.cl_log.specs.Rest.{is_undone, times_undone, rest_to_undo, undo_of}
+use Rattle.cl_log.specs.Settled.{settled, IsReversible}
+use Rattle.cl_log.specs.Store.{Stored, stored_after, store_of_log, redone, later, IsConsistentLog, IsCopyAfter}
+
+-- one more record changes the store at the place of its write alone
+abbrev pub StoreFollowsRecords : Type 0
+StoreFollowsRecords = (entries : List Entry) (entry : Entry) (place : Place) →
+    store_of_log (entries ++ entry ∷ []) place ≡ stored_after place (store_of_log entries place) entry
+
+-- redo by guard of the records after the first ones, on a copy that has each place as some moment after the first ones left it,
+-- leaves at each place the later of what the copy had and what the log left
+abbrev pub RedoLeavesLater : Type 0
+RedoLeavesLater = (log first records : List Entry) (copy : Place → Stored) → IsNumberedFrom 1 log → IsConsistentLog log →
+    BeginsWith log (first ++ records) → IsCopyAfter log first copy → (place : Place) →
+    redone records place (copy place) ≡ later (copy place) (store_of_log (first ++ records) place)
+
+-- on the way each write finds the number that its record had before it, or at least its own number
+abbrev pub RedoMeetsGuard : Type 0
+RedoMeetsGuard = (log first records : List Entry) (entry : Entry) (rest : List Entry) (copy : Place → Stored) → IsNumberedFrom 1 log → IsConsistentLog log →
+    log ≡ first ++ records ++ entry ∷ rest → IsCopyAfter log first copy → (place : Place) → writes place entry.content ≡ true →
+    ((redone records place (copy place)).0 ≡ number_before entry.content) ⊎ (entry.number ≤ (redone records place (copy place)).0)
+
+-- one more record changes the locks of its own transaction alone
+abbrev pub LocksFollowRecords : Type 0
+LocksFollowRecords = (entries : List Entry) (entry : Entry) (txn : TxnId) (place : Place) →
+    (takes_lock entry.content ≡ true → has_ended entries (txn_of entry.content) ≡ false) →
+    locks_of_log (entries ++ entry ∷ []) txn place ≡ locks_after (locks_of_log entries) entry txn place
+
+-- an undo step: the entry undoes the first of the rest of a transaction
+pub record UndoStep (entries : List Entry) (txn : TxnId) (first : Entry) (others : List Entry) (entry : Entry) : Type 0 where
+  pub rest : rest_to_undo entries txn ≡ first ∷ others
+  pub now : ℕ
+  pub undoes : entry.content ≡ undo_of first.content first.number now
+
+-- it takes the first of that rest, and nothing of the rest of another transaction
+abbrev pub UndoTakesFirst : Type 0
+UndoTakesFirst = (entries : List Entry) (n : ℕ) (txn : TxnId) (first : Entry) (others : List Entry) (entry : Entry) → IsNumberedFrom n entries →
+    UndoStep entries txn first others entry → (other : TxnId) →
+    (rest_to_undo (entries ++ entry ∷ []) txn ≡ others) × (other ≢ txn → rest_to_undo (entries ++ entry ∷ []) other ≡ rest_to_undo entries other)
+
+-- it leaves the settled map under each history without the transaction
+abbrev pub UndoKeepsSettled : Type 0
+UndoKeepsSettled = (entries : List Entry) (n : ℕ) (txn : TxnId) (first : Entry) (others : List Entry) (entry : Entry) → IsNumberedFrom n entries →
+    UndoStep entries txn first others entry → is_open entries txn ≡ true → HasNoConflict entries →
+    (history : List TxnId) → is_among txn history ≡ false → (place : Place) → settled (entries ++ entry ∷ []) history place ≡ settled entries history place
+
+-- in a log that follows the rules each write is undone once at most
+abbrev pub WritesUndoneOnce : Type 0
+WritesUndoneOnce = (entries : List Entry) → IsLawfulLog entries → (number : ℕ) → times_undone entries number ≤ 1
+
+-- what else leaves the settled map
+pub data IsSettling (entries : List Entry) (history : List TxnId) (entry : Entry) : Type 0 where
+  -- a Touch, Prepared or Decide
+  mark : is_mark entry.content ≡ true → IsSettling entries history entry
+  -- a write that can be undone of a running transaction that is not in the history
+  write : can_be_undone entry.content ≡ true → has_ended entries (txn_of entry.content) ≡ false → is_among (txn_of entry.content) history ≡ false →
+      is_undone entries entry.number ≡ false → IsReversible entries entry.content → IsSettling entries history entry
+  -- the End of a transaction of the history, or of one with nothing left to undo
+  end : is_end entry.content ≡ true → (is_among (txn_of entry.content) history ≡ true) ⊎ (rest_to_undo entries (txn_of entry.content) ≡ []) → IsSettling entries history entry
+
+abbrev pub RecordsKeepSettled : Type 0
+RecordsKeepSettled = (entries : List Entry) (history : List TxnId) (entry : Entry) → IsSettling entries history entry →
+    (place : Place) → settled (entries ++ entry ∷ []) history place ≡ settled entries history place
+
+-- the low number is the least number of a record of an open transaction, or the next number where none is open
+pub record IsLeastOpen (entries : List Entry) (next low : ℕ) : Type 0 where
+  pub at_most_next : low ≤ next
+  pub least : (before : List Entry) (entry : Entry) (after : List Entry) → entries ≡ before ++ entry ∷ after → is_open entries (txn_of entry.content) ≡ true → low ≤ entry.number
+  pub found : (low ≡ next) ⊎ ((before : List Entry) × (entry : Entry) × (after : List Entry) × (entries ≡ before ++ entry ∷ after) × (is_open entries (txn_of entry.content) ≡ true) × (low ≡ entry.number))
+
+abbrev pub LowIsLeastOpen : Type 0
+LowIsLeastOpen = (entries : List Entry) (n : ℕ) → IsNumberedFrom n entries → IsLeastOpen entries (n + length entries) (low_of entries (n + length entries))
+
+-- the unended transactions are the open ones, each once
+abbrev pub UnendedAreOpen : Type 0
+UnendedAreOpen = (entries : List Entry) → IsDistinct same_txn (unended_of entries) × ((txn : TxnId) → is_among txn (unended_of entries) ≡ is_open entries txn)
+
+-- a transaction is open exactly where its stage is running or prepared
+abbrev pub OpenByStage : Type 0
+OpenByStage = (entries : List Entry) (txn : TxnId) → is_open entries txn ≡ is_under_way (stage_of entries txn)
+
+-- one more member of the history leaves the settled map where it has no exclusive lock, and where a member has one the settled map is the store
+abbrev pub HistorySettlesLocks : Type 0
+HistorySettlesLocks = (entries : List Entry) (history : List TxnId) (txn : TxnId) (place : Place) →
+    (locks_of_log entries txn place ≢ Some Exclusive → settled entries (history ++ txn ∷ []) place ≡ settled entries history place)
+    × (HasNoConflict entries → is_among txn history ≡ true → locks_of_log entries txn place ≡ Some Exclusive → settled entries history place ≡ (store_of_log entries place).1)

@@ -1,0 +1,10 @@
+pub mod Entry
+pub mod Kind
+pub mod Locks
+pub mod Log
+pub mod Open
+pub mod Rest
+pub mod Settled
+pub mod Store
+pub mod Lawful
+pub mod Laws

@@ -1,0 +1,67 @@
+-- The locks of a log.
+use Rattle.std.specs.Prelude.{Bool, true, false, if◌then◌else◌, List, Option, Some, None, fold, ◌≡◌}
+use Rattle.cl_types.specs.declared.operations.Mode.{Mode}
+use Rattle.cl_types.specs.declared.operations.Mode.TheVariants.{Shared, Exclusive}
+use Rattle.cl_types.specs.declared.operations.TxnId.{TxnId}
+use Rattle.cl_log.specs.declared.records.LogRec.{LogRec}
+use Rattle.cl_log.specs.declared.records.LogRec.TheVariants.{Touch, Set, Add, Comp, Prepared, End, Decide}
+use Rattle.cl_log.specs.Entry.{Entry}
+use Rattle.cl_log.specs.Kind.{Place, same_place, is_of, is_end}
+use Rattle.cl_log.specs.Open.{is_open}
+
+-- the stronger of two modes, where none is the weakest
+abbrev pub stronger : Option Mode → Option Mode → Option Mode
+stronger None other = other
+stronger (Some Exclusive) other = Some Exclusive
+stronger (Some Shared) None = Some Shared
+stronger (Some Shared) (Some other) = Some other
+
+-- the mode in which a record locks a place: a Touch its own, a Set and an Add exclusive
+abbrev pub mode_at : Place → LogRec → Option Mode
+mode_at place (Touch txn table key mode) = if same_place (table, key) place then Some mode else None
+mode_at place (Set txn table key before old new) = if same_place (table, key) place then Some Exclusive else None
+mode_at place (Add txn table key before amount) = if same_place (table, key) place then Some Exclusive else None
+mode_at place (Comp txn table key before undone form) = None
+mode_at place (Prepared txn) = None
+mode_at place (End txn commit) = None
+mode_at place (Decide txn) = None
+
+-- the mode of a transaction at a place after one more record
+abbrev pub mode_after : TxnId → Place → Option Mode → Entry → Option Mode
+mode_after txn place mode entry = if is_of txn entry.content then stronger mode (mode_at place entry.content) else mode
+
+-- the strongest mode of a transaction's records at a place
+unfoldable pub strongest_mode : List Entry → TxnId → Place → Option Mode
+strongest_mode entries txn place = fold (mode_after txn place) None entries
+
+-- the locks of a log: for each open transaction, the places of its Touch, Set and Add records with the strongest mode there
+unfoldable pub locks_of_log : List Entry → TxnId → Place → Option Mode
+locks_of_log entries txn place = if is_open entries txn then strongest_mode entries txn place else None
+
+-- what takes a lock: a Touch, Set or Add
+abbrev pub takes_lock : LogRec → Bool
+takes_lock (Touch txn table key mode) = true
+takes_lock (Set txn table key before old new) = true
+takes_lock (Add txn table key before amount) = true
+takes_lock (Comp txn table key before undone form) = false
+takes_lock (Prepared txn) = false
+takes_lock (End txn commit) = false
+takes_lock (Decide txn) = false
+
+-- the locks after one more record: an End frees the locks of its transaction, what takes a lock makes it as strong as it asks
+abbrev pub locks_after : (TxnId → Place → Option Mode) → Entry → TxnId → Place → Option Mode
+locks_after locks entry txn place =
+    if is_of txn entry.content then (if is_end entry.content then None else stronger (locks txn place) (mode_at place entry.content)) else locks txn place
+
+-- two locks of one place conflict, unless both are shared
+abbrev pub is_conflict : Option Mode → Option Mode → Bool
+is_conflict None other = false
+is_conflict (Some mode) None = false
+is_conflict (Some Shared) (Some Shared) = false
+is_conflict (Some Shared) (Some Exclusive) = true
+is_conflict (Some Exclusive) (Some other) = true
+
+-- no two transactions have conflicting locks
+abbrev pub HasNoConflict : List Entry → Type 0
+HasNoConflict entries =
+    (a b : TxnId) (place : Place) → is_conflict (locks_of_log entries a place) (locks_of_log entries b place) ≡ true → a ≡ b

@@ -1,0 +1,42 @@
+-- The settled map of a log under a history.
+use Rattle.std.specs.Prelude.{◌≡◌, true, ℕ, Bool, ◌&&◌, not, if◌then◌else◌, List, Option, reverse, filter, fold}
+use Rattle.cl_types.specs.declared.operations.TxnId.{TxnId}
+use Rattle.cl_log.specs.declared.records.LogRec.{LogRec}
+use Rattle.cl_log.specs.declared.records.LogRec.TheVariants.{Touch, Set, Add, Comp, Prepared, End, Decide}
+use Rattle.cl_log.specs.Entry.{Entry}
+use Rattle.cl_log.specs.Kind.{Place, txn_of, writes}
+use Rattle.cl_log.specs.Open.{is_open, is_among}
+use Rattle.cl_log.specs.Rest.{is_left}
+use Rattle.cl_log.specs.Store.{less, value_after, store_of_log}
+
+-- what undoing a write makes of the value: of a Set the old image, of an Add the value less the amount
+abbrev pub value_undone : LogRec → Option (List ℕ) → Option (List ℕ)
+value_undone (Touch txn table key mode) value = value
+value_undone (Set txn table key before old new) value = old
+value_undone (Add txn table key before amount) value = less amount value
+value_undone (Comp txn table key before undone form) value = value
+value_undone (Prepared txn) value = value
+value_undone (End txn commit) value = value
+value_undone (Decide txn) value = value
+
+-- the value at a place after undoing one more record
+abbrev pub undone_at : Place → Option (List ℕ) → Entry → Option (List ℕ)
+undone_at place value entry = if writes place entry.content then value_undone entry.content value else value
+
+-- a write left to undo, of an open transaction that is not in the history
+abbrev pub is_unsettled : List Entry → List TxnId → Entry → Bool
+is_unsettled entries history entry =
+    is_left entries entry && (is_open entries (txn_of entry.content) && not (is_among (txn_of entry.content) history))
+
+-- the rests of all open transactions that are not in the history, last first
+unfoldable pub unsettled : List Entry → List TxnId → List Entry
+unsettled entries history = reverse (filter (is_unsettled entries history) entries)
+
+-- the settled map: the values of the store after undoing these
+unfoldable pub settled : List Entry → List TxnId → Place → Option (List ℕ)
+settled entries history place = fold (undone_at place) (store_of_log entries place).1 (unsettled entries history)
+
+-- undoing a write gives back what stood before it: a Set has that as its old image, an Add adds to a number within 64 bits
+abbrev pub IsReversible : List Entry → LogRec → Type 0
+IsReversible seen content =
+    (place : Place) → writes place content ≡ true → value_undone content (value_after content (store_of_log seen place).1) ≡ (store_of_log seen place).1

@@ -1,0 +1,137 @@
+//! The log of a replica.
+ghost use Rattle.std.specs.Prelude.{◌+◌, ◌^◌, ◌<◌, ◌≤◌, length};
+ghost use Rattle.cl_types.specs.GrowingList.{items};
+
+use crate::{LogRec, Stage, scans};
+use cl_types::{GrowingList, NoMemory, TxnId};
+use std::alloc::Global;
+
+/// Log numbers in order.
+pub type NumberList = GrowingList<u64>;
+
+/// Names of transactions in order.
+pub type TxnList = GrowingList<TxnId>;
+
+/// A log: records in order, whose numbers count up by one.
+///
+/// Contracts see the records that are kept with their numbers (`entries`), the number of the next
+/// (`next_number`), and for how many more there is room (`spare`).
+#[derive(Debug, Drop)]
+pub struct Log {
+    records: GrowingList<LogRec>,
+    first: u64,
+    ghost counts_from_one: { 1 ≤ first },
+    ghost has_numbers: { first + length (items records) < 2 ^ 64 },
+}
+
+#[tactic(auto, unfolding(crate::specs::Log::entries, crate::specs::Log::next_number, crate::specs::Log::spare))]
+impl Log {
+    ghost use Rattle.std.specs.Prelude.{◌≡◌, ◌+◌, ◌-◌, ◌^◌, ◌≤◌, [], ◌∷◌, ◌++◌, OnOk, IsOk, IfOk};
+    ghost use Rattle.cl_types.specs.GrowingList.{items};
+    ghost use Rattle.std.specs.Option.{option_copied};
+    ghost use Rattle.cl_log.specs.Log.{entries, next_number, spare};
+    ghost use Rattle.cl_log.specs.Entry.{content_at};
+    ghost use Rattle.cl_log.specs.Open.{stage_of, chain_of, low_of, unended_of};
+    ghost use Rattle.cl_log.specs.Rest.{rest_to_undo, first_number};
+
+    /// An empty log whose next number is `first`. It takes no memory.
+    pub fn new(alloc: Global, first: u64) -> Log
+        requires { 1 ≤ first }
+        ensures entries { entries result ≡ [] }
+        ensures next { next_number result ≡ first }
+    {
+        Log {
+            records: GrowingList::new(alloc),
+            first,
+        }
+    }
+
+    /// Makes room for `count` more records. The log stays, whatever the answer.
+    pub fn reserve(&mut self, count: usize) -> Result<(), NoMemory>
+        ensures entries { entries self.new ≡ entries self.old }
+        ensures next { next_number self.new ≡ next_number self.old }
+        ensures ok { OnOk result (count ≤ spare self.new) }
+        ensures roomy { count ≤ spare self.old → IsOk result }
+        ensures kept { spare self.old ≤ spare self.new }
+    {
+        self.records.reserve(count)
+    }
+
+    // The number that the next record will have.
+    fn next(&self) -> u64
+        ensures { result ≡ next_number self.now }
+    {
+        self.first + self.records.len() as u64
+    }
+
+    /// The number of the last record that was appended, or the one below the first number where
+    /// none was.
+    pub fn last(&self) -> u64
+        ensures { result ≡ next_number self.now - 1 }
+    {
+        self.next() - 1
+    }
+
+    /// Adds a record at the end and gives its number. The last number is below 2^62. It takes no
+    /// memory.
+    pub fn append(&mut self, entry: LogRec) -> u64
+        requires room { 1 ≤ spare self.old }
+        requires numbers { next_number self.old ≤ 2 ^ 62 }
+        ensures number { result ≡ next_number self.old }
+        ensures entries { entries self.new ≡ entries self.old ++ record { number = result; content = entry } ∷ [] }
+        ensures next { next_number self.new ≡ result + 1 }
+        ensures kept { spare self.old ≤ spare self.new + 1 }
+    {
+        let number = self.next();
+        match self.records.push(entry) {
+            Ok(()) => number,
+            Err(_) => unreachable!(),
+        }
+    }
+
+    /// The record of a number, or `None` where the log does not keep it.
+    pub fn at(&self, number: u64) -> Option<&LogRec>
+        ensures { option_copied result ≡ content_at (entries self.now) number }
+    {
+        if number < self.first {
+            return None;
+        }
+        self.records.at((number - self.first) as usize)
+    }
+
+    /// The number of the first record of an open transaction, or the next number where none is open.
+    pub fn low(&self) -> u64
+        ensures { result ≡ low_of (entries self.now) (next_number self.now) }
+    {
+        scans::low_of(self.records.as_slice(), self.first)
+    }
+
+    /// How far a transaction is.
+    pub fn stage(&self, txn: TxnId) -> Stage
+        ensures { result ≡ stage_of (entries self.now) txn }
+    {
+        scans::stage_of(self.records.as_slice(), txn)
+    }
+
+    /// The numbers of all records of a transaction that are kept, of whichever kind, in order.
+    pub fn chain(&self, alloc: Global, txn: TxnId) -> Result<NumberList, NoMemory>
+        ensures { IfOk result (λ numbers. items numbers ≡ chain_of (entries self.now) txn) }
+    {
+        scans::chain_of(alloc, self.records.as_slice(), self.first, txn)
+    }
+
+    /// The open transactions, by first log number.
+    pub fn unended(&self, alloc: Global) -> Result<TxnList, NoMemory>
+        ensures { IfOk result (λ txns. items txns ≡ unended_of (entries self.now)) }
+    {
+        scans::open_txns(alloc, self.records.as_slice())
+    }
+
+    /// The number of a transaction's last write that is not undone, or `None` where nothing is left
+    /// to undo.
+    pub fn rest_to_undo(&self, txn: TxnId) -> Option<u64>
+        ensures { result ≡ first_number (rest_to_undo (entries self.now) txn) }
+    {
+        scans::last_left(self.records.as_slice(), self.first, txn)
+    }
+}
