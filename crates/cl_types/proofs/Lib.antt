@@ -1,3 +1,6 @@
-pub mod Digits
 pub mod DecimalLaws
+pub mod Digits
+pub mod Modes
 pub mod PlacementLaws
+pub mod Places
+pub mod Transactions

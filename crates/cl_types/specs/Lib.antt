@@ -1,6 +1,9 @@
 pub mod AppendOnlyList
 pub mod Decimal
 pub mod GrowingList
+pub mod Modes
 pub mod Names
 pub mod Placement
+pub mod Places
 pub mod Plain
+pub mod Transactions
