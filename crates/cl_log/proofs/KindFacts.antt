@@ -1,9 +1,10 @@
 -- What the kinds of a record say of it.
 use Rattle.std.proofs.Common.{◌≡◌, ℕ, true, false, List, Option, refl}
 use Rattle.std.proofs.lemmas.Bool.{false≢true}
+use Rattle.cl_types.specs.Places.{Place}
 use Rattle.cl_log.specs.declared.records.LogRec.{LogRec}
 use Rattle.cl_log.specs.declared.records.LogRec.TheVariants.{Touch, Set, Add, Comp, Prepared, End, Decide}
-use Rattle.cl_log.specs.Kind.{Place, opens, is_end, is_mark, can_be_undone, undoes, writes}
+use Rattle.cl_log.specs.Kind.{opens, is_end, is_mark, can_be_undone, undoes, writes}
 use Rattle.cl_log.specs.Rest.{undo_of}
 use Rattle.cl_log.specs.Settled.{value_undone}
 use Rattle.cl_log.specs.Store.{value_after}

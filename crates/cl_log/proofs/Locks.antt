@@ -4,21 +4,19 @@ use Rattle.std.specs.List.{list_any, fold}
 use Rattle.std.proofs.lemmas.Bool.{cond-true, cond-false, cases_Bool, and_right, or_parts, or_right, not_from_true, true≢false, false≢true}
 use Rattle.std.proofs.lemmas.List.Sums.{fold_push, fold-append}
 use Rattle.cl_types.specs.declared.operations.Mode.{Mode}
-use Rattle.cl_types.specs.declared.operations.Mode.TheVariants.{Shared, Exclusive}
+use Rattle.cl_types.specs.declared.operations.Mode.TheVariants.{Exclusive}
 use Rattle.cl_types.specs.declared.operations.TxnId.{TxnId}
+use Rattle.cl_types.proofs.Transactions.{same_txn-true}
+use Rattle.cl_types.specs.Modes.{stronger, is_conflict}
+use Rattle.cl_types.proofs.Modes.{stronger-none, stronger-exclusive}
+use Rattle.cl_types.specs.Places.{Place}
 use Rattle.cl_log.specs.declared.records.LogRec.{LogRec}
 use Rattle.cl_log.specs.declared.records.LogRec.TheVariants.{Touch, Set, Add, Comp, Prepared, End, Decide}
 use Rattle.cl_log.specs.Entry.{Entry}
-use Rattle.cl_log.specs.Kind.{Place, txn_of, is_of, opens, is_end, can_be_undone, writes}
-use Rattle.cl_log.specs.Locks.{stronger, mode_at, mode_after, strongest_mode, locks_of_log, takes_lock, locks_after, is_conflict, HasNoConflict}
+use Rattle.cl_log.specs.Kind.{txn_of, is_of, opens, is_end, can_be_undone, writes}
+use Rattle.cl_log.specs.Locks.{mode_at, mode_after, strongest_mode, locks_of_log, takes_lock, locks_after, HasNoConflict}
 use Rattle.cl_log.specs.Open.{has_begun, has_ended, is_open}
 use Rattle.cl_log.proofs.Open.{is_open_push-own, is_open_push-other, is_open_push-end}
-use Rattle.cl_log.proofs.Txn.{same_txn-true}
-
-pub stronger-none : (mode : Option Mode) → stronger mode None ≡ mode
-stronger-none None = refl
-stronger-none (Some Shared) = refl
-stronger-none (Some Exclusive) = refl
 
 -- what takes no lock locks no place
 mode_at-none : (place : Place) (content : LogRec) → takes_lock content ≡ false → mode_at place content ≡ None
@@ -122,11 +120,6 @@ mode_at-write place (Comp txn table key before undone form) h k = absurd (false�
 mode_at-write place (Prepared txn) h k = absurd (false≢true h)
 mode_at-write place (End txn commit) h k = absurd (false≢true h)
 mode_at-write place (Decide txn) h k = absurd (false≢true h)
-
-stronger-exclusive : (mode : Option Mode) → stronger mode (Some Exclusive) ≡ Some Exclusive
-stronger-exclusive None = refl
-stronger-exclusive (Some Shared) = refl
-stronger-exclusive (Some Exclusive) = refl
 
 pub locks_of_log-write : (xs : List Entry) (entry : Entry) (ys : List Entry) (txn : TxnId) (place : Place) →
     is_open (xs ++ entry ∷ ys) txn ≡ true → is_of txn entry.content ≡ true → can_be_undone entry.content ≡ true → writes place entry.content ≡ true →

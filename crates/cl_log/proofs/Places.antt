@@ -1,23 +1,12 @@
--- Places that are the same, and what a record does elsewhere.
-use Rattle.std.proofs.Common.{◌≡◌, ◌≢◌, ℕ, true, false, List, None, refl, ap, ◌∙◌}
-use Rattle.std.specs.Cmp.Lexicographic.{bytes_decides}
-use Rattle.std.proofs.lemmas.Bool.{and_parts, and_from, cond-false, false_from_ne_true, false≢true}
+-- What a record does at its place, and elsewhere.
+use Rattle.std.proofs.Common.{◌≡◌, true, false, None, refl}
+use Rattle.std.proofs.lemmas.Bool.{cond-false, false_from_ne_true, false≢true}
+use Rattle.cl_types.specs.Places.{Place}
+use Rattle.cl_types.proofs.Places.{same_place-true, same_place-false}
 use Rattle.cl_log.specs.declared.records.LogRec.{LogRec}
 use Rattle.cl_log.specs.declared.records.LogRec.TheVariants.{Touch, Set, Add, Comp, Prepared, End, Decide}
-use Rattle.cl_log.specs.Kind.{Place, same_place, writes}
+use Rattle.cl_log.specs.Kind.{writes}
 use Rattle.cl_log.specs.Locks.{mode_at}
-
-pub same_place-true : (a b : Place) → same_place a b ≡ true → a ≡ b
-same_place-true a b h =
-    let parts = and_parts _ _ h in
-    let of : List ℕ → List ℕ → Place = λ table key. (table, key) in
-    ap (λ table. of table a.1) ((bytes_decides a.0 b.0).0 parts.0) ∙ ap (of b.0) ((bytes_decides a.1 b.1).0 parts.1)
-
-pub same_place-itself : (a : Place) → same_place a a ≡ true
-same_place-itself a = and_from _ _ ((bytes_decides a.0 a.0).1 refl) ((bytes_decides a.1 a.1).1 refl)
-
-pub same_place-false : (a b : Place) → a ≢ b → same_place a b ≡ false
-same_place-false a b h = false_from_ne_true _ (λ t. h (same_place-true a b t))
 
 -- the place of a record that has one
 abbrev pub IsAt : LogRec → Place → Type 0

@@ -5,10 +5,10 @@ use Rattle.std.proofs.lemmas.List.{append-nil, reverse-append, reverse-reverse, 
 use Rattle.std.proofs.lemmas.List.Elements.{filter-append, filter_agree}
 use Rattle.std.proofs.lemmas.Bool.{and_left, and_right, and_parts, cond-true, cond-false, not-true, not_from_true, not_from_false, ne_eqb, eq-eqb, false≢true}
 use Rattle.cl_types.specs.declared.operations.TxnId.{TxnId}
+use Rattle.cl_types.proofs.Transactions.{same_txn-true, same_txn-false}
 use Rattle.cl_log.specs.declared.records.LogRec.{LogRec}
 use Rattle.cl_log.specs.declared.records.LogRec.TheVariants.{Touch, Set, Add, Comp, Prepared, End, Decide}
 use Rattle.cl_log.proofs.Entries.{IsNumberedFrom-append}
-use Rattle.cl_log.proofs.Txn.{same_txn-true, same_txn-false}
 use Rattle.cl_log.specs.Entry.{Entry, numbered, IsNumberedFrom, content_at}
 use Rattle.cl_log.specs.Kind.{txn_of, is_of, can_be_undone, undoes}
 use Rattle.cl_log.specs.Rest.{is_undone, is_left_of, rest_to_undo, first_number, undo_of}

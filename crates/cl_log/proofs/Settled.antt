@@ -7,22 +7,24 @@ use Rattle.std.proofs.lemmas.List.Folds.{list_any-append}
 use Rattle.std.proofs.lemmas.List.Sums.{fold-append}
 use Rattle.cl_types.specs.declared.operations.Mode.TheVariants.{Exclusive}
 use Rattle.cl_types.specs.declared.operations.TxnId.{TxnId}
+use Rattle.cl_types.proofs.Places.{same_place-true}
+use Rattle.cl_types.proofs.Transactions.{same_txn-true, same_txn-itself}
+use Rattle.cl_types.specs.Places.{Place, Stored}
+use Rattle.cl_types.specs.Transactions.{same_txn}
 use Rattle.cl_log.specs.declared.records.LogRec.TheVariants.{Set}
 use Rattle.cl_log.specs.Entry.{Entry, IsNumberedFrom}
-use Rattle.cl_log.specs.Kind.{Place, same_txn, txn_of, is_of, opens, is_end, is_mark, can_be_undone, undoes, writes}
+use Rattle.cl_log.specs.Kind.{txn_of, is_of, opens, is_end, is_mark, can_be_undone, undoes, writes}
 use Rattle.cl_log.specs.Locks.{locks_of_log, HasNoConflict}
 use Rattle.cl_log.specs.Open.{has_begun, has_ended, is_open, is_among}
 use Rattle.cl_log.specs.Rest.{is_undone, is_left, is_left_of, rest_to_undo, undo_of}
 use Rattle.cl_log.specs.Settled.{value_undone, undone_at, is_unsettled, unsettled, settled, IsReversible}
-use Rattle.cl_log.specs.Store.{Stored, value_after, store_of_log}
+use Rattle.cl_log.specs.Store.{value_after, store_of_log}
 use Rattle.cl_log.proofs.Entries.{IsNumberedFrom-append, number_at}
 use Rattle.cl_log.proofs.KindFacts.{can_be_undone-opens, mark_writes, mark_undoable, mark_end, mark_undoes, write_end, write_undoes, end_writes, end_undoable, end_undoes, writes-undo_of, value_after-undo_of, opens-undo_of, is_end-undo_of}
 use Rattle.cl_log.proofs.Locks.{locks_of_log-write, one_writer}
 use Rattle.cl_log.proofs.Open.{is_open_push-other, is_open_push-idle, is_open_push-begun, is_open_push-end, is_open_push-opens, or_false}
 use Rattle.cl_log.proofs.Rest.{IsFirstOfRest, is_undone_push, first_of_rest_is, names_first, can_be_undone-undo_of}
-use Rattle.cl_log.proofs.Places.{same_place-true}
 use Rattle.cl_log.proofs.Store.{store_of_log_other, store_of_log_written}
-use Rattle.cl_log.proofs.Txn.{same_txn-true, same_txn-itself}
 
 Value : Type 0
 Value = Option (List ℕ)

@@ -4,9 +4,10 @@ use Rattle.std.specs.List.{fold}
 use Rattle.std.proofs.lemmas.Bool.{cond-true, cond-false, cases_Bool, ne_eqb, eq-eqb, and_from, and_left, and_right, lt-ltb, le-ltb}
 use Rattle.std.proofs.lemmas.List.{append_assoc, append-nil}
 use Rattle.std.proofs.lemmas.List.Sums.{fold_push, fold-append}
+use Rattle.cl_types.specs.Places.{Place, Stored}
 use Rattle.cl_log.specs.Entry.{Entry, IsNumberedFrom, EachAfter, BeginsWith}
-use Rattle.cl_log.specs.Kind.{Place, writes, number_before}
-use Rattle.cl_log.specs.Store.{Stored, written, stored_after, store_of_log, redo_by_guard, redone, later, CarriesNumberBefore, IsConsistentLog, IsCopyAfter}
+use Rattle.cl_log.specs.Kind.{writes, number_before}
+use Rattle.cl_log.specs.Store.{written, stored_after, store_of_log, redo_by_guard, redone, later, CarriesNumberBefore, IsConsistentLog, IsCopyAfter}
 use Rattle.cl_log.proofs.Entries.{IsNumberedFrom-append, EachAfter-append, EachAfter-at, fronts, append_cancel}
 
 -- nothing was written by an empty log

@@ -5,18 +5,20 @@ use Rattle.std.specs.List.{IsDistinct, AllByRecursion, list_any, filter, fold}
 use Rattle.std.proofs.lemmas.Bool.{cond-true, cond-false, cases_Bool, and_parts, or_left, or_right, both_ways, false_from_ne_true}
 use Rattle.std.proofs.lemmas.Map.Keys.{IsDistinct-push}
 use Rattle.cl_types.specs.declared.operations.TxnId.{TxnId}
+use Rattle.cl_types.proofs.Transactions.{same_txn-true, same_txn-itself, same_txn-symmetric}
+use Rattle.cl_types.specs.Transactions.{same_txn}
 use Rattle.cl_log.specs.Entry.{Entry}
-use Rattle.cl_log.specs.Kind.{same_txn, txn_of, is_of, opens}
+use Rattle.cl_log.specs.Kind.{txn_of, is_of, opens}
 use Rattle.cl_log.specs.Open.{is_among, has_begun, is_open, with_txn, txns_of, unended_of}
 use Rattle.cl_log.proofs.Open.{or_false}
-use Rattle.cl_log.proofs.Txn.{same_txn-true, same_txn-itself, same_txn_comm, is_among-filter}
+use Rattle.cl_log.proofs.Txn.{is_among-filter}
 use Rattle.std.proofs.lemmas.List.Folds.{list_any-append}
 
 -- the names of transactions compare as numbers do
 pub same_txn_equivalence : IsEquivalence same_txn
 same_txn_equivalence = record {
   refl = same_txn-itself;
-  symm = same_txn_comm;
+  symm = same_txn-symmetric;
   congr = λ x y z t. subst (λ w. same_txn x z ≡ same_txn w z) (same_txn-true x y t) refl;
 }
 
@@ -34,7 +36,7 @@ is_among-with_txn txn txns entry = by_new (is_among (txn_of entry.content) txns)
     by_new false f =
         ap (is_among txn) (cond-false _ _ _ f)
         ∙ list_any-append (same_txn txn) txns (txn_of entry.content ∷ [])
-        ∙ ap (λ b. is_among txn txns || b) (or_false _ ∙ same_txn_comm txn (txn_of entry.content))
+        ∙ ap (λ b. is_among txn txns || b) (or_false _ ∙ same_txn-symmetric txn (txn_of entry.content))
 
 is_among-fold : (txn : TxnId) (txns : List TxnId) (entries : List Entry) → is_among txn (fold with_txn txns entries) ≡ (is_among txn txns || list_any (λ entry. is_of txn entry.content) entries)
 is_among-fold txn txns [] = sym (or_false _)

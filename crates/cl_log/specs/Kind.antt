@@ -1,19 +1,10 @@
 -- What a record says: whose it is, where it writes, and what it does to a transaction.
-use Rattle.std.specs.Prelude.{ℕ, Bool, true, false, ◌&&◌, ◌==◌, nat_eq, List}
-use Rattle.std.specs.Cmp.Lexicographic.{pointwise}
+use Rattle.std.specs.Prelude.{ℕ, Bool, true, false, ◌==◌}
 use Rattle.cl_types.specs.declared.operations.TxnId.{TxnId}
+use Rattle.cl_types.specs.Places.{Place, same_place}
+use Rattle.cl_types.specs.Transactions.{same_txn}
 use Rattle.cl_log.specs.declared.records.LogRec.{LogRec}
 use Rattle.cl_log.specs.declared.records.LogRec.TheVariants.{Touch, Set, Add, Comp, Prepared, End, Decide}
-
-abbrev pub same_txn : TxnId → TxnId → Bool
-same_txn a b = (a.session == b.session) && (a.number == b.number)
-
--- a place is a table and a key
-abbrev pub Place : Type 0
-Place = List ℕ × List ℕ
-
-abbrev pub same_place : Place → Place → Bool
-same_place a b = pointwise nat_eq a.0 b.0 && pointwise nat_eq a.1 b.1
 
 -- the transaction of a record
 abbrev pub txn_of : LogRec → TxnId

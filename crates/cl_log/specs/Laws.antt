@@ -3,14 +3,16 @@ use Rattle.std.specs.Prelude.{◌≡◌, ◌≢◌, ℕ, ◌+◌, ◌≤◌, ◌
 use Rattle.std.specs.List.{IsDistinct}
 use Rattle.cl_types.specs.declared.operations.Mode.TheVariants.{Exclusive}
 use Rattle.cl_types.specs.declared.operations.TxnId.{TxnId}
+use Rattle.cl_types.specs.Places.{Place, Stored}
+use Rattle.cl_types.specs.Transactions.{same_txn}
 use Rattle.cl_log.specs.Entry.{Entry, IsNumberedFrom, BeginsWith}
-use Rattle.cl_log.specs.Kind.{Place, same_txn, txn_of, is_end, is_mark, can_be_undone, writes, number_before}
+use Rattle.cl_log.specs.Kind.{txn_of, is_end, is_mark, can_be_undone, writes, number_before}
 use Rattle.cl_log.specs.Lawful.{IsLawfulLog}
 use Rattle.cl_log.specs.Locks.{takes_lock, locks_after, locks_of_log, HasNoConflict}
 use Rattle.cl_log.specs.Open.{has_ended, is_open, is_among, is_under_way, stage_of, low_of, unended_of}
 use Rattle.cl_log.specs.Rest.{is_undone, times_undone, rest_to_undo, undo_of}
 use Rattle.cl_log.specs.Settled.{settled, IsReversible}
-use Rattle.cl_log.specs.Store.{Stored, stored_after, store_of_log, redone, later, IsConsistentLog, IsCopyAfter}
+use Rattle.cl_log.specs.Store.{stored_after, store_of_log, redone, later, IsConsistentLog, IsCopyAfter}
 
 -- one more record changes the store at the place of its write alone
 abbrev pub StoreFollowsRecords : Type 0

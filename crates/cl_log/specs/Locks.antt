@@ -1,20 +1,15 @@
 -- The locks of a log.
 use Rattle.std.specs.Prelude.{Bool, true, false, if◌then◌else◌, List, Option, Some, None, fold, ◌≡◌}
 use Rattle.cl_types.specs.declared.operations.Mode.{Mode}
-use Rattle.cl_types.specs.declared.operations.Mode.TheVariants.{Shared, Exclusive}
+use Rattle.cl_types.specs.declared.operations.Mode.TheVariants.{Exclusive}
 use Rattle.cl_types.specs.declared.operations.TxnId.{TxnId}
+use Rattle.cl_types.specs.Modes.{stronger, is_conflict}
+use Rattle.cl_types.specs.Places.{Place, same_place}
 use Rattle.cl_log.specs.declared.records.LogRec.{LogRec}
 use Rattle.cl_log.specs.declared.records.LogRec.TheVariants.{Touch, Set, Add, Comp, Prepared, End, Decide}
 use Rattle.cl_log.specs.Entry.{Entry}
-use Rattle.cl_log.specs.Kind.{Place, same_place, is_of, is_end}
+use Rattle.cl_log.specs.Kind.{is_of, is_end}
 use Rattle.cl_log.specs.Open.{is_open}
-
--- the stronger of two modes, where none is the weakest
-abbrev pub stronger : Option Mode → Option Mode → Option Mode
-stronger None other = other
-stronger (Some Exclusive) other = Some Exclusive
-stronger (Some Shared) None = Some Shared
-stronger (Some Shared) (Some other) = Some other
 
 -- the mode in which a record locks a place: a Touch its own, a Set and an Add exclusive
 abbrev pub mode_at : Place → LogRec → Option Mode
@@ -52,14 +47,6 @@ takes_lock (Decide txn) = false
 abbrev pub locks_after : (TxnId → Place → Option Mode) → Entry → TxnId → Place → Option Mode
 locks_after locks entry txn place =
     if is_of txn entry.content then (if is_end entry.content then None else stronger (locks txn place) (mode_at place entry.content)) else locks txn place
-
--- two locks of one place conflict, unless both are shared
-abbrev pub is_conflict : Option Mode → Option Mode → Bool
-is_conflict None other = false
-is_conflict (Some mode) None = false
-is_conflict (Some Shared) (Some Shared) = false
-is_conflict (Some Shared) (Some Exclusive) = true
-is_conflict (Some Exclusive) (Some other) = true
 
 -- no two transactions have conflicting locks
 abbrev pub HasNoConflict : List Entry → Type 0

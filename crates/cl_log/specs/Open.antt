@@ -3,11 +3,12 @@ use Rattle.std.specs.Prelude.{ℕ, Bool, true, false, ◌&&◌, not, IsTrue, if�
 use Rattle.std.specs.Option.{option_map_or}
 use Rattle.std.specs.List.{list_any, find}
 use Rattle.cl_types.specs.declared.operations.TxnId.{TxnId}
+use Rattle.cl_types.specs.Transactions.{same_txn}
 use Rattle.cl_log.specs.declared.records.LogRec.{LogRec}
 use Rattle.cl_log.specs.declared.stage.Stage.{Stage}
 use Rattle.cl_log.specs.declared.stage.Stage.TheVariants.{Unknown, Running, Prepared, Ended}
 use Rattle.cl_log.specs.Entry.{Entry}
-use Rattle.cl_log.specs.Kind.{same_txn, txn_of, is_of, opens, is_prepared, is_end}
+use Rattle.cl_log.specs.Kind.{txn_of, is_of, opens, is_prepared, is_end}
 
 -- a transaction is among these
 abbrev pub is_among : TxnId → List TxnId → Bool

@@ -1,10 +1,11 @@
 -- The settled map of a log under a history.
 use Rattle.std.specs.Prelude.{◌≡◌, true, ℕ, Bool, ◌&&◌, not, if◌then◌else◌, List, Option, reverse, filter, fold}
 use Rattle.cl_types.specs.declared.operations.TxnId.{TxnId}
+use Rattle.cl_types.specs.Places.{Place}
 use Rattle.cl_log.specs.declared.records.LogRec.{LogRec}
 use Rattle.cl_log.specs.declared.records.LogRec.TheVariants.{Touch, Set, Add, Comp, Prepared, End, Decide}
 use Rattle.cl_log.specs.Entry.{Entry}
-use Rattle.cl_log.specs.Kind.{Place, txn_of, writes}
+use Rattle.cl_log.specs.Kind.{txn_of, writes}
 use Rattle.cl_log.specs.Open.{is_open, is_among}
 use Rattle.cl_log.specs.Rest.{is_left}
 use Rattle.cl_log.specs.Store.{less, value_after, store_of_log}

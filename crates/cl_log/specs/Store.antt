@@ -2,16 +2,13 @@
 use Rattle.std.specs.Prelude.{◌≡◌, ℕ, true, ◌&&◌, ◌==◌, nat_lt, if◌then◌else◌, List, [], ◌++◌, Option, None, ℤ, neg_ℤ, fold}
 use Rattle.cl_types.specs.Plain.{plain_value}
 use Rattle.cl_types.specs.declared.operations.Op.TheVariants.{Add as PlainAdd}
+use Rattle.cl_types.specs.Places.{Place, Stored}
 use Rattle.cl_log.specs.declared.records.Form.{Form}
 use Rattle.cl_log.specs.declared.records.Form.TheVariants.{Image, Amount}
 use Rattle.cl_log.specs.declared.records.LogRec.{LogRec}
 use Rattle.cl_log.specs.declared.records.LogRec.TheVariants.{Touch, Set, Add, Comp, Prepared, End, Decide}
 use Rattle.cl_log.specs.Entry.{Entry, EachAfter, BeginsWith}
-use Rattle.cl_log.specs.Kind.{Place, writes, number_before}
-
--- what stands at a place: the state number, which is 0 where it was never written, and the value
-abbrev pub Stored : Type 0
-Stored = ℕ × Option (List ℕ)
+use Rattle.cl_log.specs.Kind.{writes, number_before}
 
 -- a value less an amount
 abbrev pub less : ℤ → Option (List ℕ) → Option (List ℕ)

@@ -1,6 +1,7 @@
 //! What a record says of its transaction.
 ghost use Rattle.std.specs.Prelude.{◌≡◌, IfOk};
-ghost use Rattle.cl_log.specs.Kind.{same_txn, txn_of, is_of, opens, is_prepared, is_end, can_be_undone, undoes};
+ghost use Rattle.cl_types.specs.Transactions.{same_txn};
+ghost use Rattle.cl_log.specs.Kind.{txn_of, is_of, opens, is_prepared, is_end, can_be_undone, undoes};
 
 use crate::LogRec;
 use cl_types::TxnId;

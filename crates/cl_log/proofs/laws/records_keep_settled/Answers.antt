@@ -1,7 +1,7 @@
 use Rattle.std.specs.Prelude.{◌≡◌, List, [], ◌∷◌, ◌++◌}
 use Rattle.cl_types.specs.declared.operations.TxnId.{TxnId}
+use Rattle.cl_types.specs.Places.{Place}
 use Rattle.cl_log.specs.Entry.{Entry}
-use Rattle.cl_log.specs.Kind.{Place}
 use Rattle.cl_log.specs.Laws.{IsSettling, mark, write, end}
 use Rattle.cl_log.specs.Settled.{settled}
 use Rattle.cl_log.proofs.Settled.{settled_after_mark, settled_after_write, settled_after_end}
