@@ -33,8 +33,8 @@ name number = record { session = 1; number = number }
 
 -- the operations of the two, in the order of their commits, and in the other order
 operations-in_order : operations_of two_transactions (name 1 ∷ name 2 ∷ []) ≡
-    record { place = record { table = codes "t"; key = codes "a" }; op = Put (codes "x"); outcome = Some (Done Stored) }
-    ∷ record { place = record { table = codes "t"; key = codes "a" }; op = Get; outcome = Some (Done (Found (codes "x"))) } ∷ []
+    record { place = (codes "t", codes "a"); op = Put (codes "x"); outcome = Some (Done Stored) }
+    ∷ record { place = (codes "t", codes "a"); op = Get; outcome = Some (Done (Found (codes "x"))) } ∷ []
 unfolding gather pair_up in_turn session_step line_of command_of words
 operations-in_order = refl
 

@@ -3,7 +3,6 @@ use Rattle.std.proofs.Common.{◌≡◌, ◌≢◌, ℕ, ◌+◌, true, false, c
 use Rattle.std.specs.declared.cmp.Ordering.{Ordering}
 use Rattle.std.specs.declared.cmp.Ordering.TheVariants.{Less, Equal, Greater}
 use Rattle.std.specs.Ordering.{nat_cmp, ordering_then, is_eq}
-use Rattle.std.specs.Bool.{Decides}
 use Rattle.std.specs.Str.{bytes_eq}
 use Rattle.std.specs.Option.{is_some}
 use Rattle.std.specs.Cmp.{IsTotalOrder}
@@ -13,40 +12,14 @@ use Rattle.std.specs.Map.{lookup, keys_of}
 use Rattle.std.specs.List.{AllByRecursion}
 use Rattle.std.specs.List.Sorted.{IsStrictlySortedBy}
 use Rattle.std.specs.FinMap.{FinMap, empty, get, find, len, from_entries, get-empty, get-from_entries, len-empty, len-insert, same_map}
-use Rattle.std.proofs.lemmas.Bool.Decides.{Decides-and, Decides-like, same_from_decides}
 use Rattle.std.proofs.lemmas.Cmp.{on_total, then_total, nat_list_cmp_total}
 use Rattle.std.proofs.lemmas.Map.Lookups.{CmpEqualImpliesEq, exact_pairs, exact_bytes}
 use Rattle.std.proofs.lemmas.Map.Text.{is_eq-slice_cmp}
 use Rattle.std.proofs.lemmas.Map.Keys.{sorted_head, sorted_tail}
-use Rattle.std.proofs.lemmas.Slice.Eq.{bytes_eq-Decides}
-use Rattle.cl_serial.specs.PlainMap.{Place, Values, is_same_place, no_values, updated}
+use Rattle.cl_types.specs.Places.{Place, same_place}
+use Rattle.cl_types.proofs.Places.{same_place-Decides, same_place-itself, same_place-false}
+use Rattle.cl_serial.specs.PlainMap.{Values, no_values, updated}
 use Rattle.cl_serial.specs.PlainMapModel.{place_of, place_cmp, value_at}
-
--- ---- places
-
--- the test of one place is equality
-pub is_same_place-Decides : (a b : Place) → Decides (is_same_place a b) (a ≡ b)
-is_same_place-Decides a b =
-    Decides-like (is_same_place a b)
-    (λ (p : (a.table ≡ b.table) × (a.key ≡ b.key)). λ i. record { table = p.0 i; key = p.1 i })
-    (λ e. (ap (λ (p : Place). p.table) e, ap (λ (p : Place). p.key) e))
-    (Decides-and _ _ (bytes_eq-Decides a.table b.table) (bytes_eq-Decides a.key b.key))
-
-pub is_same_place-self : (a : Place) → is_same_place a a ≡ true
-is_same_place-self a = (is_same_place-Decides a a).1 refl
-
-pub is_same_place-symmetric : (a b : Place) → is_same_place a b ≡ is_same_place b a
-is_same_place-symmetric a b =
-    same_from_decides _ _ (is_same_place-Decides a b)
-    (Decides-like _ (λ (e : b ≡ a). sym e) (λ (e : a ≡ b). sym e) (is_same_place-Decides b a))
-
--- places that are not equal are two
-pub is_same_place-other : (a b : Place) → a ≢ b → is_same_place a b ≡ false
-is_same_place-other a b apart =
-    elim (is_same_place a b) as (λ t. is_same_place a b ≡ t → t ≡ false) [
-      | true ↦ λ same. absurd (apart ((is_same_place-Decides a b).0 same))
-      | false ↦ λ same. refl
-    ] refl
 
 -- ---- the order of places
 
@@ -56,19 +29,19 @@ both_equal Equal second = refl
 both_equal Greater second = refl
 
 -- places that compare equal are one place
-pub is_eq-place_cmp : (a b : Place) → is_eq (place_cmp a b) ≡ is_same_place a b
+pub is_eq-place_cmp : (a b : Place) → is_eq (place_cmp a b) ≡ same_place a b
 is_eq-place_cmp a b =
-    both_equal (slice_cmp nat_cmp a.table b.table) (slice_cmp nat_cmp a.key b.key)
-    ∙ ap (λ t. t && is_eq (slice_cmp nat_cmp a.key b.key)) (is_eq-slice_cmp a.table b.table)
-    ∙ ap (λ t. bytes_eq a.table b.table && t) (is_eq-slice_cmp a.key b.key)
+    both_equal (slice_cmp nat_cmp a.0 b.0) (slice_cmp nat_cmp a.1 b.1)
+    ∙ ap (λ t. t && is_eq (slice_cmp nat_cmp a.1 b.1)) (is_eq-slice_cmp a.0 b.0)
+    ∙ ap (λ t. bytes_eq a.0 b.0 && t) (is_eq-slice_cmp a.1 b.1)
 
 pub place_cmp_total : IsTotalOrder place_cmp
-place_cmp_total = then_total (on_total (λ p. p.table) nat_list_cmp_total) (on_total (λ p. p.key) nat_list_cmp_total)
+place_cmp_total = then_total (on_total (λ p. p.0) nat_list_cmp_total) (on_total (λ p. p.1) nat_list_cmp_total)
 
 pub place_cmp_exact : CmpEqualImpliesEq place_cmp
 place_cmp_exact a b tie =
     ap (λ (p : List ℕ × List ℕ). place_of p.0 p.1)
-    (exact_pairs (slice_cmp nat_cmp) (slice_cmp nat_cmp) exact_bytes exact_bytes (a.table, a.key) (b.table, b.key) tie)
+    (exact_pairs (slice_cmp nat_cmp) (slice_cmp nat_cmp) exact_bytes exact_bytes (a.0, a.1) (b.0, b.1) tie)
 
 -- ---- maps that are updated
 
@@ -77,16 +50,16 @@ pub same_values : (these those : Values) → ((place : Place) → these place �
 same_values these those same = λ i place. same place i
 
 pub updated-same : (values : Values) (place : Place) (value : Option (List ℕ)) → updated values place value place ≡ value
-updated-same values place value = ap (λ t. cond t value (values place)) (is_same_place-self place)
+updated-same values place value = ap (λ t. cond t value (values place)) (same_place-itself place)
 
 pub updated-other : (values : Values) (place : Place) (value : Option (List ℕ)) (other : Place) → place ≢ other → updated values place value other ≡ values other
-updated-other values place value other apart = ap (λ t. cond t value (values other)) (is_same_place-other place other apart)
+updated-other values place value other apart = ap (λ t. cond t value (values other)) (same_place-false place other apart)
 
 -- to leave what was there changes nothing
 pub updated-kept : (values : Values) (place other : Place) → updated values place (values place) other ≡ values other
 updated-kept values place other =
-    elim (is_same_place place other) as (λ t. is_same_place place other ≡ t → cond t (values place) (values other) ≡ values other) [
-      | true ↦ λ same. ap values ((is_same_place-Decides place other).0 same)
+    elim (same_place place other) as (λ t. same_place place other ≡ t → cond t (values place) (values other) ≡ values other) [
+      | true ↦ λ same. ap values ((same_place-Decides place other).0 same)
       | false ↦ λ same. refl
     ] refl
 

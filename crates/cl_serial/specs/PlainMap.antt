@@ -1,23 +1,14 @@
 -- The plain map, and operations on it one after another.
-use Rattle.std.specs.Prelude.{◌≡◌, ℕ, Bool, ◌&&◌, List, [], ◌∷◌, fold, if◌then◌else◌, Option, Some, None}
-use Rattle.std.specs.Str.{bytes_eq}
+use Rattle.std.specs.Prelude.{◌≡◌, ℕ, List, [], ◌∷◌, fold, if◌then◌else◌, Option, Some, None}
 use Rattle.std.specs.List.{flat_map}
 use Rattle.cl_types.specs.declared.operations.Command.{Command}
 use Rattle.cl_types.specs.declared.operations.Command.TheVariants.{Begin, Work, Commit, Abort}
 use Rattle.cl_types.specs.declared.operations.Op.{Op}
 use Rattle.cl_types.specs.declared.answers.Outcome.{Outcome}
 use Rattle.cl_types.specs.declared.answers.Outcome.TheVariants.{Done}
+use Rattle.cl_types.specs.Places.{Place, same_place}
 use Rattle.cl_types.specs.Plain.{plain_reply, plain_value}
 use Rattle.cl_serial.specs.Exchanges.{Exchange, outcome_of}
-
--- where a record is
-pub record Place : Type 0 where
-  pub table : List ℕ
-  pub key : List ℕ
-
--- whether two places are one
-abbrev pub is_same_place : Place → Place → Bool
-is_same_place a b = bytes_eq a.table b.table && bytes_eq a.key b.key
 
 -- a map from places to values
 abbrev pub Values : Type 0
@@ -29,7 +20,7 @@ no_values place = None
 
 -- the map with this at the place, and all else as before
 abbrev pub updated : Values → Place → Option (List ℕ) → Values
-updated values place value other = if is_same_place place other then value else values other
+updated values place value other = if same_place place other then value else values other
 
 -- an operation of a transaction, where it was done, and its outcome in the transcript
 pub record Operation : Type 0 where
@@ -40,7 +31,7 @@ pub record Operation : Type 0 where
 -- the operation that a command is, where it is one
 abbrev pub operation_by : Command → Option Outcome → List Operation
 operation_by Begin outcome = []
-operation_by (Work table key op) outcome = record { place = record { table = table; key = key }; op = op; outcome = outcome } ∷ []
+operation_by (Work table key op) outcome = record { place = (table, key); op = op; outcome = outcome } ∷ []
 operation_by Commit outcome = []
 operation_by Abort outcome = []
 

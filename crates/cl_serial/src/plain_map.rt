@@ -3,7 +3,8 @@ ghost use Rattle.std.specs.Prelude.{◌≡◌, IfOk, OnOk, OnErr};
 ghost use Rattle.std.specs.BTreeMap.{get as found_at, IsUnchanged};
 ghost use Rattle.std.specs.FinMap as map;
 ghost use Rattle.cl_types.specs.Plain.{plain_reply, plain_value};
-ghost use Rattle.cl_serial.specs.PlainMap.{Place, updated};
+ghost use Rattle.cl_types.specs.Places.{Place};
+ghost use Rattle.cl_serial.specs.PlainMap.{updated};
 ghost use Rattle.cl_serial.specs.PlainMapModel.{place_cmp, place_of, value_at};
 
 use cl_types::{Key, NoMemory, Op, Reply, TableName, Value, apply_op};
@@ -19,13 +20,13 @@ struct RecordPlace {
 }
 
 impl Model for RecordPlace {
-    ghost use Rattle.cl_serial.specs.PlainMap.{Place};
+    ghost use Rattle.cl_types.specs.Places.{Place};
 
     ghost Value = { Place };
 
-    ghost view = { λ place. record { table = place.table; key = place.key } };
+    ghost view = { λ place. (place.table, place.key) };
 
-    ghost inverse = { λ place. record { table = place.table; key = place.key } };
+    ghost inverse = { λ place. record { table = place.0; key = place.1 } };
 }
 
 /// A map from places, each a table and a key, to values. Contracts see it as a finite map.

@@ -6,7 +6,8 @@ use Rattle.cl_types.specs.declared.operations.TxnId.{TxnId}
 use Rattle.cl_types.specs.declared.answers.Outcome.{Outcome}
 use Rattle.cl_lines.specs.declared.out.Out.TheVariants.{Answer}
 use Rattle.cl_serial.specs.Transcript.{Entry, fed, written}
-use Rattle.cl_serial.specs.PlainMap.{Place, Values}
+use Rattle.cl_types.specs.Places.{Place}
+use Rattle.cl_serial.specs.PlainMap.{Values}
 use Rattle.cl_lines.specs.declared.line.Line.TheVariants.{Client}
 use Rattle.cl_lines.specs.Line.{line_of}
 use Rattle.cl_lines.specs.Laws.{IsAskable}

@@ -10,7 +10,8 @@ use Rattle.cl_lines.specs.Line.{line_of, client_of, client_part, fault_of, fault
 use Rattle.cl_serial.specs.Transcript.{Entry, gather}
 use Rattle.cl_serial.specs.Exchanges.{pair_up, in_turn}
 use Rattle.cl_serial.specs.Transactions.{Session, session_of, session_step}
-use Rattle.cl_serial.specs.PlainMap.{Place, Values, RepliesAgree}
+use Rattle.cl_types.specs.Places.{Place}
+use Rattle.cl_serial.specs.PlainMap.{Values, RepliesAgree}
 use Rattle.cl_serial.specs.Serial.{FitsTurn}
 use Rattle.clustra.specs.Turn.{turn_outcome, turn_count, turn_begun, turn_values, turn_history, IsAsked}
 use Rattle.clustra.specs.Kept.{Kept, Served}

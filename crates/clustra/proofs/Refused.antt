@@ -10,7 +10,8 @@ use Rattle.cl_lines.specs.Line.{client_of, fault_of}
 use Rattle.cl_serial.specs.Transcript.{Entry, fed, written, questions, answers, command_in}
 use Rattle.cl_serial.specs.Exchanges.{Exchange, exchanges, outcome_of, pair_up, in_turn}
 use Rattle.cl_serial.specs.Transactions.{Session, session_of, session_after, commands_in, numbered}
-use Rattle.cl_serial.specs.PlainMap.{Place, Values}
+use Rattle.cl_types.specs.Places.{Place}
+use Rattle.cl_serial.specs.PlainMap.{Values}
 use Rattle.cl_serial.specs.Serial.{StandsAt, IsIn, IsAnswered, CommittedForMembers, AnswersFollow, AnswersFitTurns, FitsTurn, RefusalsTrue, EveryLineAnswered}
 use Rattle.cl_serial.proofs.Growth.{all_of}
 use Rattle.clustra.specs.Kept.{Kept, Served}

@@ -10,7 +10,8 @@ use Rattle.cl_types.specs.declared.answers.Outcome.{Outcome}
 use Rattle.cl_types.specs.declared.answers.Outcome.TheVariants.{Done, Full}
 use Rattle.cl_types.specs.Plain.{plain_reply, plain_value}
 use Rattle.cl_serial.specs.Transactions.{Transaction, Session, session_step}
-use Rattle.cl_serial.specs.PlainMap.{Place, Values, operations, updated}
+use Rattle.cl_types.specs.Places.{Place}
+use Rattle.cl_serial.specs.PlainMap.{Values, operations, updated}
 use Rattle.cl_serial.specs.Serial.{FitsTurn, InTransaction, IsFull}
 use Rattle.clustra.specs.Turn.{turn_outcome, turn_count, turn_begun, turn_values, turn_history, IsAsked}
 use Rattle.clustra.specs.Kept.{count_in, Kept}
@@ -22,7 +23,7 @@ next ended current size command outcome = session_step (record { ended = ended; 
 
 -- an operation, by whether the transaction is full
 work_turn : (is_full : Bool) (ended : List Transaction) (current : Transaction) (size : ℕ) (history : List TxnId) (values after : Values) (begun : ℕ) (count : Option ℕ) (table key : List ℕ) (op : Op) →
-    let place : Place = record { table = table; key = key } in
+    let place : Place = (table, key) in
     let n : ℕ = length (operations current.commands) in
     let outcome : Outcome = if is_full then Full else Done (plain_reply op (values place)) in
     let new : Session = next ended (Some current) size (Work table key op) outcome in
@@ -65,7 +66,7 @@ Kept-turn ended current command size history values after begun count asked same
 
 -- the operation's outcome, by whether the transaction is full
 work_fits : (is_full : Bool) (ended : List Transaction) (current : Transaction) (table key : List ℕ) (op : Op) (values : Values) → nat_eq (length (operations current.commands)) 64 ≡ is_full →
-    FitsTurn (record { ended = ended; current = Some current }) (Work table key op) (if is_full then Full else Done (plain_reply op (values (record { table = table; key = key }))))
+    FitsTurn (record { ended = ended; current = Some current }) (Work table key op) (if is_full then Full else Done (plain_reply op (values ((table, key)))))
 work_fits true ended current table key op values is = record {
   not_txn = (λ h. absurd (cc), λ h. absurd (let e : Some current ≡ None = h.0 in cc));
   in_txn = (λ h. absurd (cc), λ h. absurd (let e : Work table key op ≡ Begin = h.1 in cc));

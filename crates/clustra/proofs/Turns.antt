@@ -12,7 +12,8 @@ use Rattle.cl_types.specs.declared.answers.Outcome.TheVariants.{Done, Committed}
 use Rattle.cl_types.specs.Plain.{plain_reply, plain_value}
 use Rattle.cl_serial.specs.Exchanges.{Exchange}
 use Rattle.cl_serial.specs.Transactions.{Transaction, with_command}
-use Rattle.cl_serial.specs.PlainMap.{Place, Values, Operation, operations, operation_in, no_values, updated, after_operations, RepliesAgree, is_same_place}
+use Rattle.cl_types.specs.Places.{Place, same_place}
+use Rattle.cl_serial.specs.PlainMap.{Values, Operation, operations, operation_in, no_values, updated, after_operations, RepliesAgree}
 use Rattle.cl_serial.proofs.Replayed.{RepliesAgree-append, RepliesAgree-single, operations-push, after_operations-push}
 use Rattle.clustra.specs.Kept.{names, GoesOn, EndsCommitted, operations_in, done_by, InOrder, Kept}
 use Rattle.clustra.proofs.Orders.{InOrder-longer, InOrder-begun, InOrder-with_command, begun_at}
@@ -72,17 +73,17 @@ Kept-begun ended size history values after begun count same h = record {
 updated_agree : (a b : Values) (place : Place) (op : Op) (other : Place) → a place ≡ b place → a other ≡ b other →
     updated a place (plain_value op (a place)) other ≡ updated b place (plain_value op (b place)) other
 updated_agree a b place op other here there =
-    ap (λ value. if is_same_place place other then plain_value op value else a other) here
-    ∙ ap (λ value. if is_same_place place other then plain_value op (b place) else value) there
+    ap (λ value. if same_place place other then plain_value op value else a other) here
+    ∙ ap (λ value. if same_place place other then plain_value op (b place) else value) there
 
 -- an operation in a transaction
 pub Kept-worked : (ended : List Transaction) (current : Transaction) (size : ℕ) (history : List TxnId) (values after : Values) (begun : ℕ) (count : Option ℕ) (table key : List ℕ) (op : Op) →
-    let place : Place = record { table = table; key = key } in
+    let place : Place = (table, key) in
     let outcome : Outcome = Done (plain_reply op (values place)) in
     ((other : Place) → after other ≡ updated values place (plain_value op (values place)) other) → length (operations current.commands) < 64 → Kept ended (Some current) size history values begun count →
     Kept ended (Some (with_command current (exchange_at size (Work table key op) outcome))) (size + 2) history after begun (Some (length (operations current.commands) + 1))
 Kept-worked ended current size history values after begun count table key op changed room h =
-    let place : Place = record { table = table; key = key } in
+    let place : Place = (table, key) in
     let outcome : Outcome = Done (plain_reply op (values place)) in
     let one : Exchange = exchange_at size (Work table key op) outcome in
     let operation : Operation = record { place = place; op = op; outcome = Some outcome } in

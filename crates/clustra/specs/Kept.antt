@@ -9,7 +9,8 @@ use Rattle.cl_types.specs.declared.answers.Outcome.TheVariants.{Committed}
 use Rattle.cl_serial.specs.Transcript.{Entry, questions, answers}
 use Rattle.cl_serial.specs.Exchanges.{Exchange, outcome_of}
 use Rattle.cl_serial.specs.Transactions.{Transaction, session_of, is_end}
-use Rattle.cl_serial.specs.PlainMap.{Place, Values, Operation, operations, no_values, after_operations, RepliesAgree}
+use Rattle.cl_types.specs.Places.{Place}
+use Rattle.cl_serial.specs.PlainMap.{Values, Operation, operations, no_values, after_operations, RepliesAgree}
 use Rattle.cl_serial.specs.Serial.{StandsAt, IsIn, CommittedForMembers, AnswersFollow, AnswersFitTurns, RefusalsTrue, EveryLineAnswered}
 
 -- the names of the first transactions of session 1

@@ -16,7 +16,7 @@ turn_outcome None Commit values = NotTxn
 turn_outcome None Abort values = NotTxn
 turn_outcome (Some count) Begin values = InTxn
 turn_outcome (Some count) (Work table key op) values =
-    if nat_eq count 64 then Full else Done (plain_reply op (values (record { table = table; key = key })))
+    if nat_eq count 64 then Full else Done (plain_reply op (values (table, key)))
 turn_outcome (Some count) Commit values = Committed
 turn_outcome (Some count) Abort values = InTxn
 
@@ -45,7 +45,7 @@ turn_values None command values = values
 turn_values (Some count) Begin values = values
 turn_values (Some count) (Work table key op) values =
     if nat_eq count 64 then values
-    else updated values (record { table = table; key = key }) (plain_value op (values (record { table = table; key = key })))
+    else updated values (table, key) (plain_value op (values (table, key)))
 turn_values (Some count) Commit values = values
 turn_values (Some count) Abort values = values
 

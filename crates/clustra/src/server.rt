@@ -5,7 +5,7 @@ ghost use Rattle.cl_types.specs.GrowingList.{items};
 ghost use Rattle.cl_types.specs.Plain.{plain_reply, plain_value};
 ghost use Rattle.cl_lines.specs.declared.out.Out.{Out as Printed};
 ghost use Rattle.cl_serial.specs.Transcript.{transcript_of, fed, written};
-ghost use Rattle.cl_serial.specs.PlainMap.{Place};
+ghost use Rattle.cl_types.specs.Places.{Place};
 ghost use Rattle.cl_serial.specs.PlainMapModel.{value_at};
 ghost use Rattle.cl_serial.specs.Serial.{Serializable, EveryLineAnswered};
 ghost use Rattle.clustra.specs.Turn.{turn_outcome, turn_count, turn_begun, turn_values, turn_history, IsAsked};

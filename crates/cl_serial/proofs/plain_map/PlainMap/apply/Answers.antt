@@ -5,7 +5,8 @@ use Rattle.std.specs.BTreeMap.{get as found_at, BTreeMap}
 use Rattle.std.specs.FinMap.{FinMap, from_entries}
 use Rattle.cl_types.specs.declared.operations.Op.{Op}
 use Rattle.cl_types.specs.Plain.{plain_reply, plain_value}
-use Rattle.cl_serial.specs.PlainMap.{Place, updated}
+use Rattle.cl_types.specs.Places.{Place}
+use Rattle.cl_serial.specs.PlainMap.{updated}
 use Rattle.cl_serial.specs.PlainMapModel.{place_cmp, place_of, value_at}
 use Rattle.cl_serial.proofs.PlainMapLemmas.{same_values, value_at-from_entries, found-value_at}
 use Rattle.cl_serial.proofs.plain_map.PlainMap.apply.Goals as goal

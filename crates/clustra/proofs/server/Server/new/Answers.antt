@@ -2,7 +2,8 @@
 use Rattle.std.proofs.Common.{◌≡◌, ◌∙◌, List, [], map, None, sym, ap, subst}
 use Rattle.cl_types.specs.declared.operations.TxnId.{TxnId}
 use Rattle.cl_serial.specs.Transcript.{Entry, entry_of}
-use Rattle.cl_serial.specs.PlainMap.{Place, Values}
+use Rattle.cl_types.specs.Places.{Place}
+use Rattle.cl_serial.specs.PlainMap.{Values}
 use Rattle.cl_serial.specs.PlainMapModel.{value_at}
 use Rattle.cl_serial.proofs.PlainMapLemmas.{value_at-empty}
 use Rattle.clustra.specs.Kept.{Served}
