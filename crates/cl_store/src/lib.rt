@@ -6,6 +6,8 @@ mod entry;
 mod item;
 mod laws;
 mod store;
+#[cfg(test)]
+mod tests;
 
 pub use item::{Item, ItemList};
 pub use laws::{records_are_in_order, records_follow_places};
