@@ -1,8 +1,9 @@
 pub mod Determined
+pub mod Found
 pub mod InOrder
-pub mod Places
-mod Found
 mod Parts
+pub mod Places
+mod Searches
 mod Sorted
-mod Splits
+pub mod Splits
 mod Writes

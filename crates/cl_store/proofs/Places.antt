@@ -2,7 +2,7 @@
 use Rattle.std.proofs.Common.{◌≡◌, ℕ, List, true, false, Ordering, Less, Equal, Greater, sym, ap, ◌∙◌, subst}
 use Rattle.std.specs.Cmp.{IsTotalOrder}
 use Rattle.std.specs.Cmp.Lexicographic.{slice_cmp}
-use Rattle.std.specs.Ordering.{nat_cmp, ordering_then, is_eq}
+use Rattle.std.specs.Ordering.{nat_cmp, ordering_then, ordering_reverse, is_eq}
 use Rattle.std.specs.Str.{bytes_eq}
 use Rattle.std.proofs.lemmas.Bool.{and_from}
 use Rattle.std.proofs.lemmas.Cmp.{then_total, on_total, nat_cmp_total, nat_list_cmp_total, tied_itself}
@@ -35,6 +35,10 @@ scan_order-Equal a b e =
 
 pub scan_order-itself : (a : Place) → scan_order a a ≡ Equal
 scan_order-itself a = tied_itself scan_order-total a
+
+-- of two places the later does not come before the earlier
+pub scan_order-flip : (a b : Place) → scan_order a b ≡ Less → scan_order b a ≡ Greater
+scan_order-flip a b before = scan_order-total.antisymm b a ∙ ap ordering_reverse before
 
 -- a place that comes before another is another
 pub same_place-before : (a b : Place) → scan_order a b ≡ Less → same_place a b ≡ false

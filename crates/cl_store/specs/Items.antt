@@ -13,7 +13,7 @@ use Rattle.cl_store.specs.ScanOrder.{scan_order}
 abbrev pub place_of : Item → Place
 place_of item = (item.table, item.key)
 
--- what stands at a place, by the first record with that place: nothing where there is none
+-- what stands at a place, by the first record with that place: number 0 and no value where there is none
 unfoldable pub stored_at : List Item → Place → Stored
 stored_at [] place = (0, None)
 stored_at (item ∷ items) place = if same_place (place_of item) place then (item.number, item.value) else stored_at items place

@@ -10,8 +10,8 @@ use crate::entry::Entry;
 use cl_types::{Key, NoMemory, TableName, hash};
 use std::alloc::Global;
 
-// Where the record of a place is, or where it would be. It takes as many comparisons as the number of records
-// has binary digits, and computes one hash.
+// Where the record of a place is, or where it would be. It computes one hash, and makes comparisons as the
+// logarithm of the number of records.
 pub(crate) fn find(entries: &[Entry], table: &TableName, key: &Key) -> Result<usize, usize>
     requires { IsInScanOrder (items_of entries.now) }
     ensures found { IfOk result (IsFoundAt (items_of entries.now) (table.now, key.now)) }

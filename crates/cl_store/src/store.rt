@@ -41,7 +41,9 @@ impl Store {
     }
 
     /// The state number and the value of a place: 0 and none where it was never written, and a number alone
-    /// where its record is dead. It takes as many comparisons as the number of records has binary digits.
+    /// where its record is dead.
+    ///
+    /// It computes one hash, and makes comparisons as the logarithm of the number of records.
     pub fn get(&self, table: &TableName, key: &Key) -> (u64, Option<&Value>)
         ensures number { result.0 ≡ (stored self.now (table.now, key.now)).0 }
         ensures value { option_copied result.1 ≡ (stored self.now (table.now, key.now)).1 }
@@ -68,7 +70,8 @@ impl Store {
 
     /// Writes a value, or none where the record dies, with a state number above the one that stands there.
     ///
-    /// It takes no memory. A place that is new moves the records after it.
+    /// It takes no memory, and finds the place as `get` does. A place that is new moves the records after it.
+    /// The value that stood there is dropped.
     pub fn write(&mut self, table: &TableName, key: &Key, value: Option<Value>, number: u64)
         requires above { (stored self.old (table.now, key.now)).0 < number }
         requires room { (0 < (stored self.old (table.now, key.now)).0) ⊎ (1 ≤ spare self.old) }
@@ -94,7 +97,7 @@ impl Store {
         }
     }
 
-    /// How many records have a value. It counts them.
+    /// How many records have a value. It walks over all records.
     pub fn live_count(&self) -> u64
         ensures { result ≡ live (records self.now) }
     {

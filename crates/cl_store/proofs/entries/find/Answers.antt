@@ -3,7 +3,7 @@ use Rattle.std.proofs.lemmas.Fn.{always_returns_same}
 use Rattle.cl_types.specs.Places.{Place}
 use Rattle.cl_store.specs.ScanOrder.{scan_order}
 use Rattle.cl_store.specs.Items.{place_of}
-use Rattle.cl_store.proofs.Found.{searched}
+use Rattle.cl_store.proofs.Searches.{searched}
 use Rattle.cl_store.proofs.entries.find.Goals as goal
 
 -- the closure gives the order of an entry's place to the place that is looked for
