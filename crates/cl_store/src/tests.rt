@@ -167,3 +167,10 @@ fn a_dead_record_stays_with_its_number(rt: HostRuntime) -> Result<(), Fail> {
     assert_eq!(rt; store.live_count(), 1);
     Ok(())
 }
+
+fn moves<T: Send + Drop>(_value: T) {}
+
+#[test]
+fn a_store_moves_between_threads(rt: HostRuntime) {
+    moves(Store::new(rt.alloc()));
+}
