@@ -1,0 +1,9 @@
+pub mod Determined
+pub mod Found
+pub mod InOrder
+mod Parts
+pub mod Places
+mod Searches
+mod Sorted
+pub mod Splits
+mod Writes

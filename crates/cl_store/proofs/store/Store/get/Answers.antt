@@ -1,0 +1,37 @@
+use Rattle.std.proofs.Common.{sym, ap, ◌∙◌, subst}
+use Rattle.cl_types.specs.Places.{Place, Stored}
+use Rattle.cl_store.specs.Entries.{items_of}
+use Rattle.cl_store.specs.Search.{IsFoundAt, BelongsAt}
+use Rattle.cl_store.specs.Store.{records}
+use Rattle.cl_store.proofs.Found.{stored_at-absent}
+use Rattle.cl_store.proofs.Writes.{stored_at-entry}
+use Rattle.cl_store.proofs.store.Store.get.Goals as goal
+
+pub returns-in-Ok-clause-number : goal.returns-in-Ok-clause-number
+unfolding records
+returns-in-Ok-clause-number c =
+    let place : Place = (c.args.table.now, c.args.key.now) in
+    let found = subst (λ entries. IsFoundAt (items_of entries) place c.in-Ok.at) c.deref.ensures.value c.in-Ok.ensures.found in
+    ap (λ (s : Stored). s.0) (sym (stored_at-entry c.args.self.now.entries.items place c.in-Ok.at c.args.self.now.in_order found c.index.result.now c.index.ensures))
+
+pub returns-in-Ok-clause-value : goal.returns-in-Ok-clause-value
+unfolding records
+returns-in-Ok-clause-value c =
+    let place : Place = (c.args.table.now, c.args.key.now) in
+    let found = subst (λ entries. IsFoundAt (items_of entries) place c.in-Ok.at) c.deref.ensures.value c.in-Ok.ensures.found in
+    c.as_ref.ensures.value
+    ∙ ap (λ (s : Stored). s.1) (sym (stored_at-entry c.args.self.now.entries.items place c.in-Ok.at c.args.self.now.in_order found c.index.result.now c.index.ensures))
+
+pub returns-in-Err-clause-number : goal.returns-in-Err-clause-number
+unfolding records
+returns-in-Err-clause-number c =
+    let place : Place = (c.args.table.now, c.args.key.now) in
+    let belongs = subst (λ entries. BelongsAt (items_of entries) place c.in-Err.field-0) c.deref.ensures.value c.in-Err.ensures.absent in
+    ap (λ (s : Stored). s.0) (sym (stored_at-absent (items_of c.args.self.now.entries.items) place c.in-Err.field-0 belongs))
+
+pub returns-in-Err-clause-value : goal.returns-in-Err-clause-value
+unfolding records
+returns-in-Err-clause-value c =
+    let place : Place = (c.args.table.now, c.args.key.now) in
+    let belongs = subst (λ entries. BelongsAt (items_of entries) place c.in-Err.field-0) c.deref.ensures.value c.in-Err.ensures.absent in
+    ap (λ (s : Stored). s.1) (sym (stored_at-absent (items_of c.args.self.now.entries.items) place c.in-Err.field-0 belongs))

@@ -1,0 +1,6 @@
+pub mod Entries
+pub mod Items
+pub mod Laws
+pub mod ScanOrder
+pub mod Search
+pub mod Store

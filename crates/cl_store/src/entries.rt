@@ -1,0 +1,59 @@
+//! Where a place is among records in scan order, and what else is read off them.
+ghost use Rattle.std.specs.Prelude.{◌≡◌, ◌≤◌, length, drop, IfOk, IfErr};
+ghost use Rattle.cl_types.specs.GrowingList.{items};
+ghost use Rattle.cl_store.specs.Entries.{items_of};
+ghost use Rattle.cl_store.specs.Items.{IsInScanOrder, records_after, place_read, live};
+ghost use Rattle.cl_store.specs.Search.{IsFoundAt, BelongsAt};
+
+use crate::ItemList;
+use crate::entry::Entry;
+use cl_types::{Key, NoMemory, TableName, hash};
+use std::alloc::Global;
+
+// Where the record of a place is, or where it would be. It computes one hash, and makes comparisons as the
+// logarithm of the number of records.
+pub(crate) fn find(entries: &[Entry], table: &TableName, key: &Key) -> Result<usize, usize>
+    requires { IsInScanOrder (items_of entries.now) }
+    ensures found { IfOk result (IsFoundAt (items_of entries.now) (table.now, key.now)) }
+    ensures absent { IfErr result (BelongsAt (items_of entries.now) (table.now, key.now)) }
+{
+    let hash = hash(key);
+    entries.binary_search_by(|entry| entry.order(hash, table, key))
+}
+
+// Where the records after a place begin, or all of them where there is no place.
+pub(crate) fn index_after(entries: &[Entry], after: Option<(&TableName, &Key)>) -> usize
+    requires { IsInScanOrder (items_of entries.now) }
+    ensures within { result ≤ length entries.now }
+    ensures rest { drop result (items_of entries.now) ≡ records_after (items_of entries.now) (place_read after.entry) }
+{
+    let Some((table, key)) = after else {
+        return 0;
+    };
+    match find(entries, table, key) {
+        Ok(at) => at + 1,
+        Err(at) => at,
+    }
+}
+
+// How many records have a value.
+pub(crate) fn live_count(entries: &[Entry]) -> u64
+    ensures { result ≡ live (items_of entries.now) }
+{
+    entries
+        .iter()
+        .filter(|entry| entry.item.value.is_some())
+        .count() as u64
+}
+
+// The records alone, copied.
+pub(crate) fn copied_items(alloc: Global, entries: &[Entry]) -> Result<ItemList, NoMemory>
+    ensures { IfOk result (λ list. items list ≡ items_of entries.now) }
+{
+    let mut list = ItemList::new(alloc);
+    list.reserve(entries.len())?;
+    for entry in entries {
+        list.push(entry.item.copy(alloc)?)?;
+    }
+    Ok(list)
+}

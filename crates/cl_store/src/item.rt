@@ -1,0 +1,35 @@
+//! The records of a store.
+ghost use Rattle.std.specs.Prelude.{◌≡◌, IfOk};
+
+use cl_types::{GrowingList, Key, NoMemory, TableName, Value};
+use std::alloc::Global;
+
+/// A record: its place, its state number (at least 1) and its value, absent where the record is dead.
+#[derive(Debug, PartialEq, Eq, Drop)]
+pub struct Item {
+    pub table: TableName,
+    pub key: Key,
+    pub number: u64,
+    pub value: Option<Value>,
+}
+
+/// Records, in scan order where a scan gives them.
+pub type ItemList = GrowingList<Item>;
+
+impl Item {
+    // Another record of the same content.
+    pub(crate) fn copy(&self, alloc: Global) -> Result<Item, NoMemory>
+        ensures { IfOk result (λ item. item ≡ self.now) }
+    {
+        let value = match &self.value {
+            Some(value) => Some(value.copy(alloc)?),
+            None => None,
+        };
+        Ok(Item {
+            table: self.table.copy(),
+            key: self.key.copy(),
+            number: self.number,
+            value,
+        })
+    }
+}

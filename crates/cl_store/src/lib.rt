@@ -1,0 +1,14 @@
+//! Records with their state numbers: a map from places, kept in scan order.
+#![tactic(auto)]
+
+mod entries;
+mod entry;
+mod item;
+mod laws;
+mod store;
+#[cfg(test)]
+mod tests;
+
+pub use item::{Item, ItemList};
+pub use laws::{records_are_in_order, records_follow_places};
+pub use store::Store;

@@ -1,0 +1,116 @@
+//! The store of a replica.
+ghost use Rattle.cl_store.specs.Entries.{items_of};
+ghost use Rattle.cl_store.specs.Items.{IsInScanOrder};
+ghost use Rattle.std.proofs.Props.{props};
+
+use crate::entry::Entry;
+use crate::{Item, ItemList, entries};
+use cl_types::{Key, NoMemory, TableName, Value};
+use std::alloc::Global;
+
+/// Records with their state numbers: a map from places, each a table and a key.
+///
+/// Contracts see the records in scan order, which is by the hash of the key, then by table, then by key
+/// (`records`), what stands at each place (`stored`), and for how many more records there is room (`spare`).
+#[derive(Debug, Drop)]
+pub struct Store {
+    entries: Vec<Entry>,
+    alloc: Global,
+    ghost in_order: { IsInScanOrder (items_of entries.items) } by { Prim.hlevel props },
+}
+
+#[tactic(auto, unfolding(crate::specs::Store::records, crate::specs::Store::spare))]
+impl Store {
+    ghost use Rattle.std.specs.Prelude.{◌≡◌, ◌+◌, ◌<◌, ◌≤◌, ◌⊎◌, [], OnOk, IsOk, IfOk, if◌then◌else◌};
+    ghost use Rattle.std.specs.Option.{option_copied};
+    ghost use Rattle.cl_types.specs.GrowingList.{items};
+    ghost use Rattle.cl_types.specs.Places.{Place, same_place};
+    ghost use Rattle.cl_store.specs.Items.{scanned, place_read, live};
+    ghost use Rattle.cl_store.specs.Search.{IsFoundAt, BelongsAt};
+    ghost use Rattle.cl_store.specs.Store.{records, spare, stored};
+
+    /// A store in which nothing was written. It takes no memory.
+    pub fn new(alloc: Global) -> Store
+        ensures records { records result ≡ [] }
+        ensures spare { spare result ≡ 0 }
+    {
+        Store {
+            entries: Vec::new(alloc),
+            alloc,
+        }
+    }
+
+    /// The state number and the value of a place: 0 and none where it was never written, and a number alone
+    /// where its record is dead.
+    ///
+    /// It computes one hash, and makes comparisons as the logarithm of the number of records.
+    pub fn get(&self, table: &TableName, key: &Key) -> (u64, Option<&Value>)
+        ensures number { result.0 ≡ (stored self.now (table.now, key.now)).0 }
+        ensures value { option_copied result.1 ≡ (stored self.now (table.now, key.now)).1 }
+    {
+        match entries::find(&self.entries, table, key) {
+            Ok(at) => {
+                let item = &self.entries[at].item;
+                (item.number, item.value.as_ref())
+            }
+            Err(_) => (0, None),
+        }
+    }
+
+    /// Makes room for `n` more records. The records stay, whatever the answer.
+    pub fn reserve(&mut self, n: usize) -> Result<(), NoMemory>
+        ensures records { records self.new ≡ records self.old }
+        ensures ok { OnOk result (n ≤ spare self.new) }
+        ensures roomy { n ≤ spare self.old → IsOk result }
+        ensures kept { spare self.old ≤ spare self.new }
+    {
+        self.entries.reserve(n)?;
+        Ok(())
+    }
+
+    /// Writes a value, or none where the record dies, with a state number above the one that stands there.
+    ///
+    /// It takes no memory, and finds the place as `get` does. A place that is new moves the records after it.
+    /// The value that stood there is dropped.
+    pub fn write(&mut self, table: &TableName, key: &Key, value: Option<Value>, number: u64)
+        requires above { (stored self.old (table.now, key.now)).0 < number }
+        requires room { (0 < (stored self.old (table.now, key.now)).0) ⊎ (1 ≤ spare self.old) }
+        ensures stored { (other : Place) → stored self.new other
+            ≡ (if same_place (table.now, key.now) other then (number, value) else stored self.old other) }
+        ensures spare { spare self.old ≤ spare self.new + 1 }
+        ensures kept { 0 < (stored self.old (table.now, key.now)).0 → spare self.old ≤ spare self.new }
+    {
+        match entries::find(&self.entries, table, key) {
+            Ok(at) => self.entries[at].overwrite(number, value),
+            Err(at) => {
+                let item = Item {
+                    table: table.copy(),
+                    key: key.copy(),
+                    number,
+                    value,
+                };
+                match self.entries.insert(at, Entry::new(item)) {
+                    Ok(()) => {}
+                    Err(_) => unreachable!(),
+                }
+            }
+        }
+    }
+
+    /// How many records have a value. It walks over all records.
+    pub fn live_count(&self) -> u64
+        ensures { result ≡ live (records self.now) }
+    {
+        entries::live_count(&self.entries)
+    }
+
+    /// The first `max` records after a place, or of all where there is none, in scan order: dead ones too.
+    ///
+    /// It finds the place as `get` does, and copies no more records than it gives.
+    pub fn scan(&self, after: Option<(&TableName, &Key)>, max: usize) -> Result<ItemList, NoMemory>
+        ensures { IfOk result (λ list. items list ≡ scanned (records self.now) (place_read after.entry) max) }
+    {
+        let rest = &self.entries[entries::index_after(&self.entries, after)..];
+        entries::copied_items(self.alloc, &rest[..max.min(rest.len())])
+    }
+}
