@@ -1,0 +1,6 @@
+pub mod GrantLists
+pub mod Compatible
+pub mod Granting
+pub mod Listed
+pub mod Walks
+pub mod TableFacts
