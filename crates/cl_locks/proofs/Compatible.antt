@@ -2,11 +2,13 @@
 use Rattle.std.proofs.Common.{◌≡◌, Bool, true, false, not, ◌&&◌, cond, List, [], ◌∷◌, ◌++◌, Option, Some, None, option_map, find, filter, refl, sym, ap, ◌∙◌, subst, arith, inl, inr}
 use Rattle.std.specs.List.{list_all}
 use Rattle.std.proofs.lemmas.Bool.{cases_Bool, and_parts, and_from, and_left, not-true, not_from_true, not_from_false, both_ways}
+use Rattle.std.proofs.lemmas.Option.{same_Some}
 use Rattle.cl_types.specs.declared.operations.Mode.{Mode}
 use Rattle.cl_types.specs.declared.operations.TxnId.{TxnId}
 use Rattle.cl_types.specs.Modes.{is_conflict}
 use Rattle.cl_types.specs.Places.{Place, same_place}
 use Rattle.cl_types.specs.Transactions.{same_txn}
+use Rattle.cl_types.proofs.Modes.{is_conflict-symmetric}
 use Rattle.cl_types.proofs.Transactions.{same_txn-true, same_txn-itself, same_txn-symmetric}
 use Rattle.cl_locks.specs.Grants.{Grant, is_of, is_in_conflict, first_conflict, own_grant, mode_held, at_place, without_lock, is_compatible, are_compatible}
 use Rattle.cl_locks.proofs.GrantLists.{find-without, filter-without, filter-not_found}
@@ -160,3 +162,71 @@ no_conflict_found (x ∷ xs) txn place mode all apart =
 pub first_conflict-none : (grants : List Grant) (txn : TxnId) (place : Place) (mode : Mode) → are_compatible grants ≡ true → NoOtherConflicts grants txn place mode → first_conflict grants txn place mode ≡ None
 unfolding first_conflict
 first_conflict-none grants txn place mode all apart = ap (λ found. option_map (λ (g : Grant). g.txn) found) (no_conflict_found grants txn place mode all apart)
+
+-- ---- modes of two transactions
+
+-- a grant's mode does not conflict with what is held by a later one
+fits_held : (grant : Grant) (grants : List Grant) (txn : TxnId) (place : Place) → list_all (is_compatible grant) grants ≡ true → is_conflict (Some grant.mode) (mode_held grants txn place) ≡ false
+unfolding own_grant
+fits_held grant [] txn place all = refl
+fits_held grant (x ∷ xs) txn place all = elim (cases_Bool (is_of txn place x)) [
+  | inl own ↦ rw own (not-true (is_conflict (Some grant.mode) (Some x.mode)) (and_parts _ _ (and_parts _ _ all).0).1)
+  | inr other ↦ rw other (fits_held grant xs txn place (and_parts _ _ all).1)
+]
+
+not_of-another : (a b : TxnId) (place : Place) (grant : Grant) → same_txn a b ≡ false → is_of a place grant ≡ true → is_of b place grant ≡ false
+not_of-another a b place grant differ own =
+    and_left _ _ (subst (λ t. same_txn b t ≡ false) (same_txn-true a grant.txn (and_parts _ _ own).0) (same_txn-symmetric b a ∙ differ))
+
+pub is_conflict-held : (grants : List Grant) (a b : TxnId) (place : Place) → are_compatible grants ≡ true → same_txn a b ≡ false → is_conflict (mode_held grants a place) (mode_held grants b place) ≡ false
+unfolding are_compatible own_grant
+is_conflict-held [] a b place all differ = refl
+is_conflict-held (x ∷ xs) a b place all differ = elim (cases_Bool (is_of a place x)) [
+  | inl first ↦
+      rw (first, not_of-another a b place x differ first)
+      (fits_held x xs b place (and_parts _ _ all).0)
+  | inr not_first ↦ elim (cases_Bool (is_of b place x)) [
+    | inl second ↦ rw (not_first, second) (is_conflict-symmetric (mode_held xs a place) (Some x.mode) ∙ fits_held x xs a place (and_parts _ _ all).0)
+    | inr not_second ↦ rw (not_first, not_second) (is_conflict-held xs a b place (and_parts _ _ all).1 differ)
+  ]
+]
+
+-- ---- what a first conflict means
+
+-- the holder is another transaction, in a mode that conflicts
+pub record HoldsAgainst (grants : List Grant) (txn : TxnId) (place : Place) (mode : Mode) (holder : TxnId) : Type 0 where
+  pub another : same_txn txn holder ≡ false
+  pub conflict : is_conflict (mode_held grants holder place) (Some mode) ≡ true
+
+first_holds : (grant : Grant) (grants : List Grant) (txn : TxnId) (place : Place) (mode : Mode) → is_in_conflict txn place mode grant ≡ true → HoldsAgainst (grant ∷ grants) txn place mode grant.txn
+first_holds grant grants txn place mode conflict =
+    let parts = and_parts (same_place place grant.place) _ conflict in
+    let rest = and_parts (not (same_txn txn grant.txn)) _ parts.1 in
+    record {
+      another = not-true (same_txn txn grant.txn) rest.0;
+      conflict = ap (λ held. is_conflict held (Some mode)) (mode_held-head grant grants grant.txn place (and_from _ _ (same_txn-itself grant.txn) parts.0)) ∙ rest.1;
+    }
+
+later_holds : (grant : Grant) (grants : List Grant) (txn : TxnId) (place : Place) (mode : Mode) (holder : TxnId) → list_all (is_compatible grant) grants ≡ true → HoldsAgainst grants txn place mode holder → HoldsAgainst (grant ∷ grants) txn place mode holder
+later_holds grant grants txn place mode holder all holds = record {
+  another = holds.another;
+  conflict = elim (cases_Bool (is_of holder place grant)) [
+    | inl own ↦ absurd (both_ways (is_conflict (mode_held grants holder place) (Some mode)) (ap (λ held. is_conflict held (Some mode)) (mode_held-after grant grants holder place all (and_parts _ _ own).0)) holds.conflict)
+    | inr other ↦ ap (λ held. is_conflict held (Some mode)) (mode_held-tail grant grants holder place other) ∙ holds.conflict
+  ];
+}
+
+first_conflict_by : (b : Bool) (grant : Grant) (grants : List Grant) (txn : TxnId) (place : Place) (mode : Mode) (holder : TxnId) (found : Option Grant) → is_in_conflict txn place mode grant ≡ b → list_all (is_compatible grant) grants ≡ true → (option_map (λ (g : Grant). g.txn) found ≡ Some holder → HoldsAgainst grants txn place mode holder) →
+    option_map (λ (g : Grant). g.txn) (cond b (Some grant) found) ≡ Some holder → HoldsAgainst (grant ∷ grants) txn place mode holder
+first_conflict_by true grant grants txn place mode holder found conflict all rest is = subst (λ h. HoldsAgainst (grant ∷ grants) txn place mode h) (same_Some grant.txn holder is) (first_holds grant grants txn place mode conflict)
+first_conflict_by false grant grants txn place mode holder found conflict all rest is = later_holds grant grants txn place mode holder all (rest is)
+
+found_holds : (grants : List Grant) (txn : TxnId) (place : Place) (mode : Mode) (holder : TxnId) → are_compatible grants ≡ true → option_map (λ (g : Grant). g.txn) (find (is_in_conflict txn place mode) grants) ≡ Some holder → HoldsAgainst grants txn place mode holder
+unfolding are_compatible
+found_holds [] txn place mode holder all is = absurd cc
+found_holds (x ∷ xs) txn place mode holder all is =
+    first_conflict_by (is_in_conflict txn place mode x) x xs txn place mode holder (find (is_in_conflict txn place mode) xs) refl (and_parts _ _ all).0 (found_holds xs txn place mode holder (and_parts _ _ all).1) is
+
+pub first_conflict-holds : (grants : List Grant) (txn : TxnId) (place : Place) (mode : Mode) (holder : TxnId) → are_compatible grants ≡ true → first_conflict grants txn place mode ≡ Some holder → HoldsAgainst grants txn place mode holder
+unfolding first_conflict
+first_conflict-holds grants txn place mode holder all is = found_holds grants txn place mode holder all is

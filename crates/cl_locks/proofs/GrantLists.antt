@@ -34,6 +34,11 @@ filter-filter : {A : Type 0} (p q : A → Bool) (xs : List A) → filter p (filt
 filter-filter p q [] = refl
 filter-filter p q (x ∷ xs) = grind (arith, filter-filter p q xs)
 
+-- what a filter keeps it keeps
+filter-again : {A : Type 0} (p : A → Bool) (xs : List A) → filter p (filter p xs) ≡ filter p xs
+filter-again p [] = refl
+filter-again p (x ∷ xs) = grind (arith, filter-again p xs)
+
 -- an item that a filter takes out does not matter
 pub filter-without : {A : Type 0} (p : A → Bool) (xs : List A) (x : A) (ys : List A) → p x ≡ false → filter p (xs ++ x ∷ ys) ≡ filter p (xs ++ ys)
 filter-without p [] x ys out = grind arith
@@ -80,6 +85,10 @@ at_place-without place xs grant ys away = filter-without (λ g. same_place place
 pub at_place-with : (place : Place) (xs : List Grant) (grant : Grant) (ys : List Grant) → same_place place grant.place ≡ true → at_place place (xs ++ grant ∷ ys) ≡ at_place place xs ++ grant ∷ at_place place ys
 unfolding at_place
 at_place-with place xs grant ys here = at_place-append place xs (grant ∷ ys) ∙ ap (λ gs. at_place place xs ++ gs) (rw here)
+
+pub at_place-again : (place : Place) (grants : List Grant) → at_place place (at_place place grants) ≡ at_place place grants
+unfolding at_place
+at_place-again place grants = filter-again (λ g. same_place place g.place) grants
 
 pub first_conflict-at_place : (grants : List Grant) (txn : TxnId) (place : Place) (mode : Mode) → first_conflict (at_place place grants) txn place mode ≡ first_conflict grants txn place mode
 unfolding first_conflict at_place

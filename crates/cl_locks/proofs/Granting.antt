@@ -23,6 +23,10 @@ option_or-none (Some x) = refl
 
 -- ---- the modes
 
+pub mode_held-none : (txn : TxnId) (place : Place) → mode_held [] txn place ≡ None
+unfolding own_grant
+mode_held-none txn place = refl
+
 mode_held-push : (grants : List Grant) (grant : Grant) (t : TxnId) (place : Place) → mode_held (grants ++ grant ∷ []) t place ≡ option_map (λ (g : Grant). g.mode) (option_or (own_grant grants t place) (own_grant (grant ∷ []) t place))
 unfolding own_grant
 mode_held-push grants grant t place = ap (λ found. option_map (λ (g : Grant). g.mode) found) (find-append (is_of t place) grants (grant ∷ []))
@@ -120,7 +124,7 @@ at_place-with_grant_elsewhere Stronger grants grant place away =
     at_place-push_elsewhere (without_lock grant.txn grant.place grants) grant place away ∙ without_lock-elsewhere grants grant.txn grant.place place away
 at_place-with_grant_elsewhere Already grants grant place away = refl
 
-mode_held-at_place : (grants : List Grant) (txn : TxnId) (place : Place) → mode_held (at_place place grants) txn place ≡ mode_held grants txn place
+pub mode_held-at_place : (grants : List Grant) (txn : TxnId) (place : Place) → mode_held (at_place place grants) txn place ≡ mode_held grants txn place
 mode_held-at_place grants txn place = ap (λ found. option_map (λ (g : Grant). g.mode) found) (own_grant-at_place grants txn place)
 
 at_place-after_grant_here : (grants : List Grant) (grant : Grant) → at_place grant.place (after_grant grants grant) ≡ after_grant (at_place grant.place grants) grant

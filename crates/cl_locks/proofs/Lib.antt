@@ -4,3 +4,5 @@ pub mod Granting
 pub mod Listed
 pub mod Walks
 pub mod TableFacts
+pub mod Asking
+pub mod TableLaws

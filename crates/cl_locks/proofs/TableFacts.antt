@@ -79,6 +79,18 @@ module _ (old new : Arena Grant) (slot : ℕ) (grant : Grant) (unlinks : Unlinks
     | inr differ ↦ rw differ (grants_on-unlinked_elsewhere old new slot grant unlinks listed place (same_place-symmetric place grant.place ∙ differ))
   ]
 
+  -- a lock of its transaction and place that comes last takes its place
+  pub grants_on-replaced : IsCompatible old → (lock : Grant) → lock.txn ≡ grant.txn → lock.place ≡ grant.place → (after : Place → List Grant) → ((place : Place) → after place ≡ cond (same_place lock.place place) (grants_on new place ++ lock ∷ []) (grants_on new place)) →
+      (place : Place) → after place ≡ cond (same_place grant.place place) (without_lock grant.txn grant.place (grants_on old place) ++ lock ∷ []) (grants_on old place)
+  grants_on-replaced compatible lock same_owner there after gives place =
+      gives place
+      ∙ ap (λ p. cond (same_place p place) (grants_on new place ++ lock ∷ []) (grants_on new place)) there
+      ∙ replaced (same_place grant.place place) refl
+      where
+    replaced : (b : Bool) → b ≡ same_place grant.place place → cond b (grants_on new place ++ lock ∷ []) (grants_on new place) ≡ cond b (without_lock grant.txn grant.place (grants_on old place) ++ lock ∷ []) (grants_on old place)
+    replaced true same = ap (λ (gs : List Grant). gs ++ lock ∷ []) (grants_on-without compatible place ∙ rw (← same))
+    replaced false differ = grants_on-without compatible place ∙ rw (← differ)
+
 -- ---- what a search of the place's list says
 
 pub first_conflict-found : (granted : Arena Grant) (txn : TxnId) (place : Place) (mode : Mode) (found : Option Grant) → find (is_in_conflict txn place mode) (items_on granted X (place_list place.1)) ≡ found → first_conflict (grants_on granted place) txn place mode ≡ option_map (λ (g : Grant). g.txn) found

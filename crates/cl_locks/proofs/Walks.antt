@@ -2,16 +2,18 @@
 use Rattle.std.proofs.Common.{◌≡◌, ◌≢◌, ℕ, ◌<◌, Bool, true, false, cond, List, [], ◌∷◌, ◌++◌, length, Option, Some, None, find, refl, sym, ap, ◌∙◌, subst, append_assoc, eqb, arith, inl, inr}
 use Rattle.std.specs.List.{filter_map, cons_option}
 use Rattle.std.specs.Option.{option_or}
-use Rattle.std.proofs.lemmas.Bool.{both_ways, eq-eqb, ne_eqb, or_right, and_parts}
+use Rattle.std.proofs.lemmas.Bool.{both_ways, eq-eqb, eqb-false, ne_eqb, or_right, or_parts, and_parts}
 use Rattle.std.proofs.lemmas.Bool.Decides.{nat_tests}
 use Rattle.std.proofs.lemmas.List.{append-nil}
 use Rattle.std.proofs.lemmas.List.Elements.{filter_map-append}
 use Rattle.std.proofs.lemmas.List.Folds.{find-append}
 use Rattle.std.proofs.lemmas.Option.{same_Some}
 use Rattle.cl_lists.specs.declared.arena.Arena.{Arena}
-use Rattle.cl_lists.specs.Arena.{item_at}
+use Rattle.cl_lists.specs.declared.slots.Side.{Side}
+use Rattle.cl_lists.specs.Arena.{list_of, item_at, Unlinks}
 use Rattle.cl_lists.specs.SlotList.{has, is_distinct, first_of, after_in}
-use Rattle.cl_lists.proofs.SlotListLemmas.{has-append, has-head, after_in-split, is_distinct-append_apart}
+use Rattle.cl_lists.proofs.ArenaLaws.{is_placed, list_of-unlinked_same}
+use Rattle.cl_lists.proofs.SlotListLemmas.{has-append, has-head, absent-front, after_in-split, is_distinct-append_apart}
 use Rattle.cl_locks.specs.Grants.{Grant}
 
 -- the list from a slot on
@@ -149,3 +151,37 @@ module _ (granted : Arena Grant) (test : Grant → Bool) where
   searched-smaller list next then slot searched distinct at after =
       from_slot-smaller list list searched.front (searched.front ++ slot ∷ []) searched.back next then slot searched.walked
       (walked-next list searched.front searched.back next searched.walked slot then distinct at after) distinct distinct at
+
+-- ---- a search that takes what it meets off the list
+
+items-besides : (f g : ℕ → Option Grant) (list : List ℕ) (slot : ℕ) → has list slot ≡ false → ((other : ℕ) → other ≢ slot → g other ≡ f other) → filter_map g list ≡ filter_map f list
+items-besides f g [] slot absent others = refl
+items-besides f g (x ∷ list) slot absent others =
+    let parts = or_parts (eqb x slot) (has list slot) absent in
+    rw (others x (eqb-false x slot parts.0), items-besides f g list slot parts.1 others)
+
+module _ (old new : Arena Grant) (test : Grant → Bool) (side : Side) (number : ℕ) (next then : Option ℕ) (slot : ℕ) (grant : Grant) (unlinks : Unlinks old new slot grant) (searched : IsSearched old test (list_of old side number) next) (at : next ≡ Some slot) (after : then ≡ after_in (list_of old side number) slot) where
+  split_here : list_of old side number ≡ searched.front ++ slot ∷ tail_of searched.back
+  split_here = walked-at (list_of old side number) searched.front searched.back next searched.walked slot at
+
+  once_here : is_distinct (list_of old side number) ≡ true
+  once_here = (is_placed old side).once number
+
+  walked_on : IsWalked (list_of new side number) then searched.front (tail_of searched.back)
+  walked_on =
+      walked-without (list_of old side number) searched.front searched.back next searched.walked slot then (list_of new side number) once_here at after
+      (list_of-unlinked_same old new slot grant unlinks side number searched.front (tail_of searched.back) split_here)
+
+  pub searched-without : IsSearched new test (list_of new side number) then
+  searched-without = record {
+    front = searched.front;
+    back = tail_of searched.back;
+    walked = walked_on;
+    none =
+        ap (find test) (items-besides (item_at old) (item_at new) searched.front slot (absent-front searched.front slot (tail_of searched.back) (subst (λ xs. is_distinct xs ≡ true) split_here once_here)) unlinks.updates.others)
+        ∙ searched.none;
+  }
+
+  pub searched-without_smaller : length (from_slot (list_of new side number) then) < length (from_slot (list_of old side number) next)
+  searched-without_smaller =
+      from_slot-smaller (list_of old side number) (list_of new side number) searched.front searched.front searched.back next then slot searched.walked walked_on once_here ((is_placed new side).once number) at

@@ -64,6 +64,7 @@ impl Locks {
         ensures modes { let place : Place = (table.now, key.now) in
             OnOk result ((t : TxnId) (p : Place) → held self.new t p
             ≡ (if same_txn txn t && same_place place p then stronger (held self.old t p) (Some mode) else held self.old t p)) }
+        ensures memory { result ≡ Err LockRefused.NoMemory → held self.old txn (table.now, key.now) ≡ None }
         ensures err { OnErr result ((place : Place) → grants_at self.new place ≡ grants_at self.old place) }
     {
         if let Some(holder) = self.first_conflict(txn, table, key, mode) {
