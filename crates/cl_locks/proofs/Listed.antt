@@ -55,21 +55,21 @@ module _ (old new : Arena Grant) (kept : IsKept old new) where
 -- empty lists came on one side
 pub IsKept-more : (old new : Arena Grant) (side : Side) (count : ℕ) → lists_on new side ≡ lists_on old side ++ replicate count [] → lists_on new (opposite side) ≡ lists_on old (opposite side) → ((slot : ℕ) → item_at new slot ≡ item_at old slot) → IsKept old new
 IsKept-more old new X count more rest items = record {
-  lists = elim [ | X ↦ (λ list. list_of-more old new X count list more) | Y ↦ (λ list. ap (λ lists. list_at lists list) rest) ];
+  lists = elim [ X ↦ (λ list. list_of-more old new X count list more) | Y ↦ (λ list. ap (λ lists. list_at lists list) rest) ];
   items = items;
 }
 IsKept-more old new Y count more rest items = record {
-  lists = elim [ | Y ↦ (λ list. list_of-more old new Y count list more) | X ↦ (λ list. ap (λ lists. list_at lists list) rest) ];
+  lists = elim [ Y ↦ (λ list. list_of-more old new Y count list more) | X ↦ (λ list. ap (λ lists. list_at lists list) rest) ];
   items = items;
 }
 
 IsKept-sides : (old new : Arena Grant) (side : Side) → lists_on new side ≡ lists_on old side → lists_on new (opposite side) ≡ lists_on old (opposite side) → ((slot : ℕ) → item_at new slot ≡ item_at old slot) → IsKept old new
 IsKept-sides old new X same rest items = record {
-  lists = elim [ | X ↦ (λ list. ap (λ lists. list_at lists list) same) | Y ↦ (λ list. ap (λ lists. list_at lists list) rest) ];
+  lists = elim [ X ↦ (λ list. ap (λ lists. list_at lists list) same) | Y ↦ (λ list. ap (λ lists. list_at lists list) rest) ];
   items = items;
 }
 IsKept-sides old new Y same rest items = record {
-  lists = elim [ | Y ↦ (λ list. ap (λ lists. list_at lists list) same) | X ↦ (λ list. ap (λ lists. list_at lists list) rest) ];
+  lists = elim [ Y ↦ (λ list. ap (λ lists. list_at lists list) same) | X ↦ (λ list. ap (λ lists. list_at lists list) rest) ];
   items = items;
 }
 

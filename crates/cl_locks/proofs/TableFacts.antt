@@ -86,10 +86,10 @@ module _ (old new : Arena Grant) (slot : ℕ) (grant : Grant) (unlinks : Unlinks
       gives place
       ∙ ap (λ p. cond (same_place p place) (grants_on new place ++ lock ∷ []) (grants_on new place)) there
       ∙ replaced (same_place grant.place place) refl
-      where
-    replaced : (b : Bool) → b ≡ same_place grant.place place → cond b (grants_on new place ++ lock ∷ []) (grants_on new place) ≡ cond b (without_lock grant.txn grant.place (grants_on old place) ++ lock ∷ []) (grants_on old place)
-    replaced true same = ap (λ (gs : List Grant). gs ++ lock ∷ []) (grants_on-without compatible place ∙ rw (← same))
-    replaced false differ = grants_on-without compatible place ∙ rw (← differ)
+    where
+      replaced : (b : Bool) → b ≡ same_place grant.place place → cond b (grants_on new place ++ lock ∷ []) (grants_on new place) ≡ cond b (without_lock grant.txn grant.place (grants_on old place) ++ lock ∷ []) (grants_on old place)
+      replaced true same = ap (λ (gs : List Grant). gs ++ lock ∷ []) (grants_on-without compatible place ∙ rw (← same))
+      replaced false differ = grants_on-without compatible place ∙ rw (← differ)
 
 -- ---- what a search of the place's list says
 
@@ -151,7 +151,7 @@ pub without_txn-none : (granted : Arena Grant) (txn : TxnId) → IsListed grante
 unfolding grants_on without_txn at_place
 without_txn-none granted txn listed none place =
     let gone = λ (slot : ℕ) (grant : Grant) (has_item : item_at granted slot ≡ Some grant).
-        not_own granted txn listed none slot grant has_item (same_txn txn grant.txn) refl in
+    not_own granted txn listed none slot grant has_item (same_txn txn grant.txn) refl in
     let items = items_on granted X (place_list place.1) in
     filter-not_found (λ (grant : Grant). same_txn txn grant.txn) (at_place place items)
     (find-kept_out (λ (grant : Grant). same_txn txn grant.txn) (λ (grant : Grant). same_place place grant.place) items

@@ -29,7 +29,6 @@ pub record IsWalked (list : List ℕ) (next : Option ℕ) (front back : List ℕ
 
 -- ---- one step
 
-
 abbrev pub tail_of : List ℕ → List ℕ
 tail_of [] = []
 tail_of (slot ∷ rest) = rest

@@ -55,7 +55,13 @@ impl Lock {
     }
 
     // Whether it is another transaction's lock at the place, in a mode that conflicts.
-    pub(crate) fn is_in_conflict(&self, txn: TxnId, table: &TableName, key: &Key, mode: Mode) -> bool
+    pub(crate) fn is_in_conflict(
+        &self,
+        txn: TxnId,
+        table: &TableName,
+        key: &Key,
+        mode: Mode,
+    ) -> bool
         ensures { result ≡ is_in_conflict txn (table.now, key.now) mode self.now }
     {
         self.is_at(table, key) && !self.is_held_by(txn) && are_in_conflict(self.mode, mode)

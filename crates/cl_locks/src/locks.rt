@@ -110,13 +110,7 @@ impl Locks {
     }
 
     // The first transaction, in order of grant, that holds a lock in conflict.
-    fn first_conflict(
-        &self,
-        txn: TxnId,
-        table: &TableName,
-        key: &Key,
-        mode: Mode,
-    ) -> Option<TxnId>
+    fn first_conflict(&self, txn: TxnId, table: &TableName, key: &Key, mode: Mode) -> Option<TxnId>
         ensures { let place : Place = (table.now, key.now) in
             result ≡ first_conflict (grants_at self.now place) txn place mode }
     {
