@@ -1,7 +1,7 @@
 -- Grants that may stand together at one place.
-use Rattle.std.proofs.Common.{◌≡◌, Bool, true, false, not, ◌&&◌, cond, List, [], ◌∷◌, ◌++◌, Option, Some, None, option_map, find, filter, refl, sym, ap, ◌∙◌, subst, arith, inl, inr}
+use Rattle.std.proofs.Common.{◌≡◌, Bool, true, false, not, ◌&&◌, cond, List, [], ◌∷◌, ◌++◌, Option, Some, None, option_map, find, refl, sym, ap, ◌∙◌, subst, arith, inl, inr}
 use Rattle.std.specs.List.{list_all}
-use Rattle.std.proofs.lemmas.Bool.{cases_Bool, and_parts, and_from, and_left, not-true, not_from_true, not_from_false, both_ways}
+use Rattle.std.proofs.lemmas.Bool.{cases_Bool, and_parts, and_from, and_left, not-true, not_from_true, both_ways}
 use Rattle.std.proofs.lemmas.Option.{same_Some}
 use Rattle.cl_types.specs.declared.operations.Mode.{Mode}
 use Rattle.cl_types.specs.declared.operations.TxnId.{TxnId}
@@ -11,7 +11,7 @@ use Rattle.cl_types.specs.Transactions.{same_txn}
 use Rattle.cl_types.proofs.Modes.{is_conflict-symmetric}
 use Rattle.cl_types.proofs.Transactions.{same_txn-true, same_txn-itself, same_txn-symmetric}
 use Rattle.cl_locks.specs.Grants.{Grant, is_of, is_in_conflict, first_conflict, own_grant, mode_held, at_place, without_lock, is_compatible, are_compatible}
-use Rattle.cl_locks.proofs.GrantLists.{find-without, filter-without, filter-not_found}
+use Rattle.cl_locks.proofs.GrantLists.{find-without, mapped_none, filter-without, filter-not_found}
 
 -- whether each grant may stand together with this one after them
 abbrev pub go_before : List Grant → Grant → Bool
@@ -48,10 +48,6 @@ go_before-step true true conflict apart other there = sym other
 go_before-step true false true apart other there = sym apart
 go_before-step true false false apart other there = refl
 go_before-step false own conflict apart other there = absurd (both_ways false refl there)
-
-mapped_none : {A B : Type 0} (f : A → B) (o : Option A) → option_map f o ≡ None → o ≡ None
-mapped_none f None none = refl
-mapped_none f (Some x) none = absurd cc
 
 find-none_head : {A : Type 0} (p : A → Bool) (x : A) (xs : List A) → find p (x ∷ xs) ≡ None → p x ≡ false
 find-none_head p x xs none = grind arith

@@ -1,21 +1,13 @@
 -- What the words on lists of grants say of a list with one grant more or less.
-use Rattle.std.proofs.Common.{◌≡◌, Bool, true, false, not, ◌&&◌, ◌||◌, cond, List, [], ◌∷◌, ◌++◌, Option, Some, None, option_map, find, filter, refl, sym, ap, ◌∙◌, subst, arith, inl, inr}
-use Rattle.std.specs.List.{list_all}
-use Rattle.std.proofs.lemmas.Bool.{cases_Bool, and_parts, and_from, not-true, not_from_true, not_from_false, both_ways}
+use Rattle.std.proofs.Common.{Option, ◌≡◌, Bool, true, false, not, cond, List, [], ◌∷◌, ◌++◌, Some, None, option_map, find, filter, refl, sym, ap, ◌∙◌, subst, arith, inl, inr}
+use Rattle.std.proofs.lemmas.Bool.{cases_Bool, and_parts, not_from_true, not_from_false}
 use Rattle.std.proofs.lemmas.List.Elements.{filter-append}
-use Rattle.std.proofs.lemmas.List.Folds.{find-append}
 use Rattle.cl_types.specs.declared.operations.Mode.{Mode}
-use Rattle.cl_types.specs.declared.operations.Mode.TheVariants.{Shared, Exclusive}
 use Rattle.cl_types.specs.declared.operations.TxnId.{TxnId}
-use Rattle.cl_types.specs.Modes.{stronger, is_conflict}
 use Rattle.cl_types.specs.Places.{Place, same_place}
 use Rattle.cl_types.specs.Transactions.{same_txn}
-use Rattle.cl_types.proofs.Modes.{stronger-none, stronger-exclusive}
-use Rattle.cl_types.proofs.Places.{same_place-true, same_place-itself, same_place-symmetric}
-use Rattle.cl_types.proofs.Transactions.{same_txn-true, same_txn-itself, same_txn-symmetric}
-use Rattle.cl_locks.specs.declared.answers.Granted.{Granted}
-use Rattle.cl_locks.specs.declared.answers.Granted.TheVariants.{New, Stronger, Already}
-use Rattle.cl_locks.specs.Grants.{Grant, is_of, is_in_conflict, first_conflict, own_grant, mode_held, at_place, without_txn, without_lock, granted_as, with_grant, after_grant, is_compatible, are_compatible}
+use Rattle.cl_types.proofs.Transactions.{same_txn-true}
+use Rattle.cl_locks.specs.Grants.{Grant, is_of, is_in_conflict, first_conflict, own_grant, mode_held, at_place, without_txn, without_lock}
 
 -- ---- a search of a list with fewer items
 
@@ -58,6 +50,11 @@ filter-not_found p (x ∷ xs) none = grind (arith, filter-not_found p xs)
 pub find-passes : {A : Type 0} (p : A → Bool) (xs : List A) (x : A) → find p xs ≡ Some x → p x ≡ true
 find-passes p [] x found = grind arith
 find-passes p (y ∷ xs) x found = grind (arith, find-passes p xs x)
+
+-- what a map takes to nothing was nothing
+pub mapped_none : {A B : Type 0} (f : A → B) (o : Option A) → option_map f o ≡ None → o ≡ None
+mapped_none f None none = refl
+mapped_none f (Some x) none = absurd cc
 
 -- ---- grants at a place, and without a transaction or a lock
 

@@ -1,5 +1,5 @@
 -- The grants after a request is granted.
-use Rattle.std.proofs.Common.{◌≡◌, Bool, true, false, not, ◌&&◌, cond, List, [], ◌∷◌, ◌++◌, Option, Some, None, option_map, find, filter, refl, sym, ap, ◌∙◌, subst, append-nil, arith, inl, inr}
+use Rattle.std.proofs.Common.{◌≡◌, true, false, not, cond, List, [], ◌∷◌, ◌++◌, Option, Some, None, option_map, refl, sym, ap, ◌∙◌, subst, append-nil, inl, inr}
 use Rattle.std.specs.Option.{option_or}
 use Rattle.std.proofs.lemmas.Bool.{cases_Bool, and_parts, and_from, and_left, not_from_true, not_from_false}
 use Rattle.std.proofs.lemmas.List.Folds.{find-append}
@@ -9,13 +9,12 @@ use Rattle.cl_types.specs.declared.operations.TxnId.{TxnId}
 use Rattle.cl_types.specs.Modes.{stronger}
 use Rattle.cl_types.specs.Places.{Place, same_place}
 use Rattle.cl_types.specs.Transactions.{same_txn}
-use Rattle.cl_types.proofs.Modes.{stronger-exclusive}
 use Rattle.cl_types.proofs.Places.{same_place-true, same_place-itself, same_place-symmetric}
 use Rattle.cl_types.proofs.Transactions.{same_txn-true, same_txn-itself, same_txn-symmetric}
 use Rattle.cl_locks.specs.declared.answers.Granted.{Granted}
 use Rattle.cl_locks.specs.declared.answers.Granted.TheVariants.{New, Stronger, Already}
 use Rattle.cl_locks.specs.Grants.{Grant, is_of, own_grant, mode_held, at_place, without_lock, granted_as, with_grant, after_grant}
-use Rattle.cl_locks.proofs.GrantLists.{find-filter, find-filtered, filter-not_found, same_txn-apart, at_place-append, at_place-one, at_place-another, own_grant-at_place, without_lock-at_place}
+use Rattle.cl_locks.proofs.GrantLists.{find-filter, find-filtered, mapped_none, filter-not_found, same_txn-apart, at_place-append, at_place-one, at_place-another, own_grant-at_place, without_lock-at_place}
 
 option_or-none : {A : Type 0} (o : Option A) → option_or o None ≡ o
 option_or-none None = refl
@@ -78,10 +77,6 @@ held_by_mode grants grant (Some Shared) Exclusive _ held asked none = record {
   other = λ t differ. mode_held-push_other (without_lock grant.txn grant.place grants) grant t differ ∙ mode_held-without_other grants grant.txn t grant.place differ;
 }
 held_by_mode grants grant (Some Exclusive) mode _ held asked none = record { own = rw held; other = λ t differ. refl }
-
-mapped_none : {A B : Type 0} (f : A → B) (o : Option A) → option_map f o ≡ None → o ≡ None
-mapped_none f None none = refl
-mapped_none f (Some x) none = absurd cc
 
 pub own_grant-none : (grants : List Grant) (txn : TxnId) (place : Place) → mode_held grants txn place ≡ None → own_grant grants txn place ≡ None
 own_grant-none grants txn place none = mapped_none (λ (g : Grant). g.mode) (own_grant grants txn place) none

@@ -1,8 +1,9 @@
-pub mod GrantLists
+mod Examples
+pub mod Asking
 pub mod Compatible
+pub mod GrantLists
 pub mod Granting
 pub mod Listed
-pub mod Walks
 pub mod TableFacts
-pub mod Asking
 pub mod TableLaws
+pub mod Walks

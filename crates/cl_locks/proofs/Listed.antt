@@ -1,19 +1,18 @@
 -- The lists of the table, after a lock came or went.
-use Rattle.std.proofs.Common.{◌≡◌, ◌≢◌, ℕ, ◌+◌, ◌<◌, ◌≤◌, ◌%◌, Bool, true, false, not, cond, List, [], ◌∷◌, ◌++◌, length, replicate, Option, Some, None, Result, Ok, Err, OnOk, OnErr, is_some, refl, sym, ap, ◌∙◌, subst, arith, inl, inr}
+use Rattle.std.proofs.Common.{◌≡◌, ◌≢◌, ℕ, ◌+◌, ◌<◌, ◌≤◌, true, false, cond, List, [], ◌∷◌, ◌++◌, replicate, Option, Some, None, Result, Ok, Err, OnOk, OnErr, refl, sym, ap, ◌∙◌, subst, arith, inl, inr}
 use Rattle.std.specs.List.{filter_map}
 use Rattle.std.proofs.lemmas.Bool.{cases_Bool, cases_eq, cases_lt, both_ways, or_left, or_right, and_from, not_from_false, ne_eqb}
 use Rattle.std.proofs.lemmas.List.{get_or_past, append-nil}
 use Rattle.std.proofs.lemmas.Option.{same_Some}
-use Rattle.std.proofs.lemmas.Bool.Decides.{nat_tests}
 use Rattle.cl_lists.specs.declared.arena.Arena.{Arena}
 use Rattle.cl_lists.specs.declared.slots.Side.{Side}
 use Rattle.cl_lists.specs.declared.slots.Side.TheVariants.{X, Y}
-use Rattle.cl_lists.specs.Arena.{lists_on, list_of, list_count, item_at, IsInUse, items_on, spare_slots, Updates, Pushes, Unlinks, IsUnchanged}
+use Rattle.cl_lists.specs.Arena.{lists_on, list_of, list_count, item_at, items_on, spare_slots, Pushes, Unlinks}
 use Rattle.cl_lists.specs.Lists.{list_at}
 use Rattle.cl_lists.specs.Sides.{opposite, on_side}
-use Rattle.cl_lists.specs.SlotList.{has, is_distinct, without}
-use Rattle.cl_lists.proofs.ArenaLaws.{is_placed, absent-pushed, list_of-pushed_same, list_of-pushed_other, items_on-pushed_same, items_on-pushed_other, list_count-unlinked, list_of-unlinked, items_on-unlinked_same, items_on-unlinked_other, items_on-had, list_of-more}
-use Rattle.cl_lists.proofs.SlotListLemmas.{has-append, has-without, has-head, split_at, SplitAt}
+use Rattle.cl_lists.specs.SlotList.{has}
+use Rattle.cl_lists.proofs.ArenaLaws.{list_of-pushed_same, list_of-pushed_other, items_on-pushed_same, items_on-pushed_other, list_count-unlinked, list_of-unlinked, items_on-unlinked_same, items_on-unlinked_other, items_on-had, list_of-more}
+use Rattle.cl_lists.proofs.SlotListLemmas.{has-append, has-without, has-head, split_at}
 use Rattle.cl_types.specs.declared.operations.TxnId.{TxnId}
 use Rattle.cl_types.specs.Places.{Place, same_place}
 use Rattle.cl_types.proofs.Places.{same_place-true, same_place-itself, same_place-symmetric}
@@ -77,15 +76,6 @@ IsKept-sides old new Y same rest items = record {
 pub IsKept-added : {E : Type 0} (old new : Arena Grant) (side : Side) (count : ℕ) (result : Result (Unit {0}) E) → OnOk result (lists_on new side ≡ lists_on old side ++ replicate count []) → OnErr result (lists_on new side ≡ lists_on old side) → lists_on new (opposite side) ≡ lists_on old (opposite side) → ((slot : ℕ) → item_at new slot ≡ item_at old slot) → IsKept old new
 IsKept-added old new side count (Ok x) more same rest items = IsKept-more old new side count more rest items
 IsKept-added old new side count (Err e) more same rest items = IsKept-sides old new side same rest items
-
-pub IsKept-unchanged : (old new : Arena Grant) → IsUnchanged old new → IsKept old new
-IsKept-unchanged old new same = record { lists = λ side list. ap (λ lists. list_at lists list) (same.lists side); items = same.items }
-
-pub IsKept-trans : (a b c : Arena Grant) → IsKept a b → IsKept b c → IsKept a c
-IsKept-trans a b c first then = record {
-  lists = λ side list. then.lists side list ∙ first.lists side list;
-  items = λ slot. then.items slot ∙ first.items slot;
-}
 
 -- ---- a list that has a slot is there
 

@@ -1,5 +1,5 @@
 -- What the table keeps, after a lock came or went.
-use Rattle.std.proofs.Common.{◌≡◌, ℕ, ◌+◌, ◌≤◌, Bool, true, false, cond, List, [], ◌∷◌, ◌++◌, Option, Some, None, option_map, find, filter, IsTrue, refl, sym, ap, ◌∙◌, subst, arith, inl, inr}
+use Rattle.std.proofs.Common.{◌≡◌, ℕ, Bool, true, false, cond, List, [], ◌∷◌, ◌++◌, Option, Some, None, option_map, find, filter, refl, sym, ap, ◌∙◌, subst, arith, inl, inr}
 use Rattle.std.specs.List.{filter_map, cons_option}
 use Rattle.std.proofs.lemmas.Bool.{cases_Bool, cases_eq, ne_eqb, both_ways}
 use Rattle.cl_lists.specs.declared.arena.Arena.{Arena}
@@ -16,7 +16,7 @@ use Rattle.cl_locks.specs.Grants.{Grant, is_of, is_in_conflict, at_place, first_
 use Rattle.cl_locks.specs.Listed.{place_list, txn_list, IsListed, HasRoomFor, grants_on}
 use Rattle.cl_locks.proofs.GrantLists.{filter-not_found, first_conflict-at_place, own_grant-at_place, without_txn-without}
 use Rattle.cl_locks.proofs.Compatible.{go_before-at_place, are_compatible-without, are_compatible-push, own_grant-besides, without_lock-one, first_conflict-besides}
-use Rattle.cl_locks.proofs.Listed.{grants_on-pushed, grants_on-unlinked, grants_on-unlinked_elsewhere, Leaves}
+use Rattle.cl_locks.proofs.Listed.{grants_on-pushed, grants_on-unlinked, grants_on-unlinked_elsewhere}
 
 -- at each place each two grants may stand together
 abbrev pub IsCompatible : Arena Grant → Type 0

@@ -1,5 +1,5 @@
 -- What crates above need of a lock table.
-use Rattle.std.proofs.Common.{◌≡◌, true, false, cond, List, [], Option, Some, None, sym, ap, ◌∙◌}
+use Rattle.std.proofs.Common.{◌≡◌, true, false, cond, List, [], Some, None, sym, ap, ◌∙◌}
 use Rattle.cl_types.specs.declared.operations.Mode.{Mode}
 use Rattle.cl_types.specs.declared.operations.TxnId.{TxnId}
 use Rattle.cl_types.specs.Modes.{is_conflict}
@@ -8,11 +8,11 @@ use Rattle.cl_types.specs.Transactions.{same_txn}
 use Rattle.cl_lists.specs.declared.slots.Side.TheVariants.{X}
 use Rattle.cl_lists.specs.Arena.{items_on}
 use Rattle.cl_locks.specs.declared.locks.Locks.{Locks}
-use Rattle.cl_locks.specs.Grants.{Grant, first_conflict, own_grant, mode_held, at_place, without_txn, after_grant, are_compatible}
+use Rattle.cl_locks.specs.Grants.{Grant, first_conflict, mode_held, at_place, without_txn, after_grant, are_compatible}
 use Rattle.cl_locks.specs.Listed.{place_list, grants_on}
 use Rattle.cl_locks.specs.Table.{grants_at, held, IsTableOf}
 use Rattle.cl_locks.proofs.GrantLists.{at_place-none, at_place-again, first_conflict-at_place, without_txn-at_place}
-use Rattle.cl_locks.proofs.Compatible.{first_conflict-none, first_conflict-holds, is_conflict-held, HoldsAgainst}
+use Rattle.cl_locks.proofs.Compatible.{first_conflict-none, first_conflict-holds, is_conflict-held}
 use Rattle.cl_locks.proofs.Granting.{at_place-after_grant, mode_held-at_place, mode_held-none}
 
 -- ---- the whole list

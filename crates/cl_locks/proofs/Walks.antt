@@ -1,9 +1,7 @@
 -- A walk along a list of slots, from the first to the last.
-use Rattle.std.proofs.Common.{◌≡◌, ◌≢◌, ℕ, ◌<◌, Bool, true, false, cond, List, [], ◌∷◌, ◌++◌, length, Option, Some, None, find, refl, sym, ap, ◌∙◌, subst, append_assoc, eqb, arith, inl, inr}
+use Rattle.std.proofs.Common.{◌≡◌, ◌≢◌, ℕ, ◌<◌, Bool, true, false, cond, List, [], ◌∷◌, ◌++◌, length, Option, Some, None, find, refl, sym, ap, ◌∙◌, subst, append_assoc, eqb, arith}
 use Rattle.std.specs.List.{filter_map, cons_option}
-use Rattle.std.specs.Option.{option_or}
 use Rattle.std.proofs.lemmas.Bool.{both_ways, eq-eqb, eqb-false, ne_eqb, or_right, or_parts, and_parts}
-use Rattle.std.proofs.lemmas.Bool.Decides.{nat_tests}
 use Rattle.std.proofs.lemmas.List.{append-nil}
 use Rattle.std.proofs.lemmas.List.Elements.{filter_map-append}
 use Rattle.std.proofs.lemmas.List.Folds.{find-append}
@@ -68,9 +66,6 @@ module _ (list front back : List ℕ) (next : Option ℕ) (walked : IsWalked lis
     here = after ∙ ap (λ xs. after_in xs slot) (walked-at slot at) ∙ after_in-split front slot (tail_of back) (subst (λ xs. is_distinct xs ≡ true) (walked-at slot at) distinct);
   }
 
-pub walked-first : (list : List ℕ) (next : Option ℕ) → next ≡ first_of list → IsWalked list next [] list
-walked-first list next first = record { whole = refl; here = first }
-
 -- ---- what is left
 
 from_slot-first : (list : List ℕ) → from_slot list (first_of list) ≡ list
@@ -105,53 +100,59 @@ from_slot-smaller list new front more back next then slot walked stepped distinc
     let is = from_slot-walked new more (tail_of back) then stepped distinct_new in
     rw (was, is) (length-tail back slot (sym walked.here ∙ at))
 
--- ---- a search
+-- ---- what the walk has passed
 
--- nothing that the walk has passed meets the test
-pub record IsSearched (granted : Arena Grant) (test : Grant → Bool) (list : List ℕ) (next : Option ℕ) : Type 0 where
+-- the grants that the walk has passed are so
+pub record HasPassed (granted : Arena Grant) (Passed : List Grant → Type 0) (list : List ℕ) (next : Option ℕ) : Type 0 where
   pub front : List ℕ
   pub back : List ℕ
   pub walked : IsWalked list next front back
-  pub none : find test (filter_map (item_at granted) front) ≡ None
+  pub passed : Passed (filter_map (item_at granted) front)
 
-module _ (granted : Arena Grant) (test : Grant → Bool) where
-  pub searched-first : (list : List ℕ) (next : Option ℕ) → next ≡ first_of list → IsSearched granted test list next
-  searched-first list next first = record { front = []; back = list; walked = walked-first list next first; none = refl }
+-- the grants of a list, of which the walk has passed the first
+pub record StopsAt (granted : Arena Grant) (Passed : List Grant → Type 0) (list : List ℕ) (grant : Grant) : Type 0 where
+  pub before : List Grant
+  pub after : List Grant
+  pub whole : filter_map (item_at granted) list ≡ before ++ grant ∷ after
+  pub passed : Passed before
 
+module _ (granted : Arena Grant) (Passed : List Grant → Type 0) where
   items_one : (slot : ℕ) (grant : Grant) (rest : List ℕ) → item_at granted slot ≡ Some grant → filter_map (item_at granted) (slot ∷ rest) ≡ grant ∷ filter_map (item_at granted) rest
   items_one slot grant rest has_item = ap (λ found. cons_option found (filter_map (item_at granted) rest)) has_item
 
-  pub searched-next : (list : List ℕ) (next then : Option ℕ) (slot : ℕ) (grant : Grant) → IsSearched granted test list next → is_distinct list ≡ true → next ≡ Some slot → then ≡ after_in list slot → item_at granted slot ≡ Some grant → test grant ≡ false → IsSearched granted test list then
-  searched-next list next then slot grant searched distinct at after has_item fails = record {
-    front = searched.front ++ slot ∷ [];
-    back = tail_of searched.back;
-    walked = walked-next list searched.front searched.back next searched.walked slot then distinct at after;
-    none =
-        ap (find test) (filter_map-append (item_at granted) searched.front (slot ∷ []))
-        ∙ find-append test (filter_map (item_at granted) searched.front) (filter_map (item_at granted) (slot ∷ []))
-        ∙ rw (searched.none, items_one slot grant [] has_item, fails);
+  pub passed-next : (list : List ℕ) (next then : Option ℕ) (slot : ℕ) (grant : Grant) → HasPassed granted Passed list next → is_distinct list ≡ true → next ≡ Some slot → then ≡ after_in list slot → item_at granted slot ≡ Some grant → ((grants : List Grant) → Passed grants → Passed (grants ++ grant ∷ [])) → HasPassed granted Passed list then
+  passed-next list next then slot grant so_far distinct at after has_item one_more = record {
+    front = so_far.front ++ slot ∷ [];
+    back = tail_of so_far.back;
+    walked = walked-next list so_far.front so_far.back next so_far.walked slot then distinct at after;
+    passed =
+        subst Passed (sym (filter_map-append (item_at granted) so_far.front (slot ∷ []) ∙ ap (λ xs. filter_map (item_at granted) so_far.front ++ xs) (items_one slot grant [] has_item)))
+        (one_more (filter_map (item_at granted) so_far.front) so_far.passed);
   }
 
-  pub searched-found : (list : List ℕ) (next : Option ℕ) (slot : ℕ) (grant : Grant) → IsSearched granted test list next → next ≡ Some slot → item_at granted slot ≡ Some grant → test grant ≡ true → find test (filter_map (item_at granted) list) ≡ Some grant
-  searched-found list next slot grant searched at has_item passes =
-      ap (λ xs. find test (filter_map (item_at granted) xs)) (walked-at list searched.front searched.back next searched.walked slot at)
-      ∙ ap (find test) (filter_map-append (item_at granted) searched.front (slot ∷ tail_of searched.back))
-      ∙ find-append test (filter_map (item_at granted) searched.front) (filter_map (item_at granted) (slot ∷ tail_of searched.back))
-      ∙ rw (searched.none, items_one slot grant (tail_of searched.back) has_item, passes)
+  pub passed-at : (list : List ℕ) (next : Option ℕ) (slot : ℕ) (grant : Grant) → HasPassed granted Passed list next → next ≡ Some slot → item_at granted slot ≡ Some grant → StopsAt granted Passed list grant
+  passed-at list next slot grant so_far at has_item = record {
+    before = filter_map (item_at granted) so_far.front;
+    after = filter_map (item_at granted) (tail_of so_far.back);
+    whole =
+        ap (filter_map (item_at granted)) (walked-at list so_far.front so_far.back next so_far.walked slot at)
+        ∙ filter_map-append (item_at granted) so_far.front (slot ∷ tail_of so_far.back)
+        ∙ ap (λ xs. filter_map (item_at granted) so_far.front ++ xs) (items_one slot grant (tail_of so_far.back) has_item);
+    passed = so_far.passed;
+  }
 
-  pub searched-all : (list : List ℕ) (next : Option ℕ) → IsSearched granted test list next → next ≡ None → find test (filter_map (item_at granted) list) ≡ None
-  searched-all list next searched end =
-      ap (λ xs. find test (filter_map (item_at granted) xs)) (walked-all list searched.front searched.back next searched.walked end) ∙ searched.none
+  pub passed-all : (list : List ℕ) (next : Option ℕ) → HasPassed granted Passed list next → next ≡ None → Passed (filter_map (item_at granted) list)
+  passed-all list next so_far end = subst (λ xs. Passed (filter_map (item_at granted) xs)) (sym (walked-all list so_far.front so_far.back next so_far.walked end)) so_far.passed
 
-  pub searched-on : (list : List ℕ) (next : Option ℕ) (slot : ℕ) → IsSearched granted test list next → next ≡ Some slot → has list slot ≡ true
-  searched-on list next slot searched at = walked-on list searched.front searched.back next searched.walked slot at
+  pub passed-on : (list : List ℕ) (next : Option ℕ) (slot : ℕ) → HasPassed granted Passed list next → next ≡ Some slot → has list slot ≡ true
+  passed-on list next slot so_far at = walked-on list so_far.front so_far.back next so_far.walked slot at
 
-  pub searched-smaller : (list : List ℕ) (next then : Option ℕ) (slot : ℕ) → IsSearched granted test list next → is_distinct list ≡ true → next ≡ Some slot → then ≡ after_in list slot → length (from_slot list then) < length (from_slot list next)
-  searched-smaller list next then slot searched distinct at after =
-      from_slot-smaller list list searched.front (searched.front ++ slot ∷ []) searched.back next then slot searched.walked
-      (walked-next list searched.front searched.back next searched.walked slot then distinct at after) distinct distinct at
+  pub passed-smaller : (list : List ℕ) (next then : Option ℕ) (slot : ℕ) → HasPassed granted Passed list next → is_distinct list ≡ true → next ≡ Some slot → then ≡ after_in list slot → length (from_slot list then) < length (from_slot list next)
+  passed-smaller list next then slot so_far distinct at after =
+      from_slot-smaller list list so_far.front (so_far.front ++ slot ∷ []) so_far.back next then slot so_far.walked
+      (walked-next list so_far.front so_far.back next so_far.walked slot then distinct at after) distinct distinct at
 
--- ---- a search that takes what it meets off the list
+-- ---- where the walk takes a slot off the list
 
 items-besides : (f g : ℕ → Option Grant) (list : List ℕ) (slot : ℕ) → has list slot ≡ false → ((other : ℕ) → other ≢ slot → g other ≡ f other) → filter_map g list ≡ filter_map f list
 items-besides f g [] slot absent others = refl
@@ -159,28 +160,40 @@ items-besides f g (x ∷ list) slot absent others =
     let parts = or_parts (eqb x slot) (has list slot) absent in
     rw (others x (eqb-false x slot parts.0), items-besides f g list slot parts.1 others)
 
-module _ (old new : Arena Grant) (test : Grant → Bool) (side : Side) (number : ℕ) (next then : Option ℕ) (slot : ℕ) (grant : Grant) (unlinks : Unlinks old new slot grant) (searched : IsSearched old test (list_of old side number) next) (at : next ≡ Some slot) (after : then ≡ after_in (list_of old side number) slot) where
-  split_here : list_of old side number ≡ searched.front ++ slot ∷ tail_of searched.back
-  split_here = walked-at (list_of old side number) searched.front searched.back next searched.walked slot at
+module _ (old new : Arena Grant) (Passed : List Grant → Type 0) (side : Side) (number : ℕ) (next then : Option ℕ) (slot : ℕ) (grant : Grant) (unlinks : Unlinks old new slot grant) (so_far : HasPassed old Passed (list_of old side number) next) (at : next ≡ Some slot) (after : then ≡ after_in (list_of old side number) slot) where
+  split_here : list_of old side number ≡ so_far.front ++ slot ∷ tail_of so_far.back
+  split_here = walked-at (list_of old side number) so_far.front so_far.back next so_far.walked slot at
 
   once_here : is_distinct (list_of old side number) ≡ true
   once_here = (is_placed old side).once number
 
-  walked_on : IsWalked (list_of new side number) then searched.front (tail_of searched.back)
+  walked_on : IsWalked (list_of new side number) then so_far.front (tail_of so_far.back)
   walked_on =
-      walked-without (list_of old side number) searched.front searched.back next searched.walked slot then (list_of new side number) once_here at after
-      (list_of-unlinked_same old new slot grant unlinks side number searched.front (tail_of searched.back) split_here)
+      walked-without (list_of old side number) so_far.front so_far.back next so_far.walked slot then (list_of new side number) once_here at after
+      (list_of-unlinked_same old new slot grant unlinks side number so_far.front (tail_of so_far.back) split_here)
 
-  pub searched-without : IsSearched new test (list_of new side number) then
-  searched-without = record {
-    front = searched.front;
-    back = tail_of searched.back;
+  pub passed-without : HasPassed new Passed (list_of new side number) then
+  passed-without = record {
+    front = so_far.front;
+    back = tail_of so_far.back;
     walked = walked_on;
-    none =
-        ap (find test) (items-besides (item_at old) (item_at new) searched.front slot (absent-front searched.front slot (tail_of searched.back) (subst (λ xs. is_distinct xs ≡ true) split_here once_here)) unlinks.updates.others)
-        ∙ searched.none;
+    passed =
+        subst Passed (sym (items-besides (item_at old) (item_at new) so_far.front slot (absent-front so_far.front slot (tail_of so_far.back) (subst (λ xs. is_distinct xs ≡ true) split_here once_here)) unlinks.updates.others))
+        so_far.passed;
   }
 
-  pub searched-without_smaller : length (from_slot (list_of new side number) then) < length (from_slot (list_of old side number) next)
-  searched-without_smaller =
-      from_slot-smaller (list_of old side number) (list_of new side number) searched.front searched.front searched.back next then slot searched.walked walked_on once_here ((is_placed new side).once number) at
+  pub passed-without_smaller : length (from_slot (list_of new side number) then) < length (from_slot (list_of old side number) next)
+  passed-without_smaller =
+      from_slot-smaller (list_of old side number) (list_of new side number) so_far.front so_far.front so_far.back next then slot so_far.walked walked_on once_here ((is_placed new side).once number) at
+
+-- ---- a search
+
+-- the test finds none of the grants
+abbrev pub FindsNone : (Grant → Bool) → List Grant → Type 0
+FindsNone test grants = find test grants ≡ None
+
+pub none-push : (test : Grant → Bool) (grants : List Grant) (grant : Grant) → FindsNone test grants → test grant ≡ false → FindsNone test (grants ++ grant ∷ [])
+none-push test grants grant none fails = find-append test grants (grant ∷ []) ∙ rw (none, fails)
+
+pub found-after : (test : Grant → Bool) (before : List Grant) (grant : Grant) (after : List Grant) → FindsNone test before → test grant ≡ true → find test (before ++ grant ∷ after) ≡ Some grant
+found-after test before grant after none passes = find-append test before (grant ∷ after) ∙ rw (none, passes)

@@ -1,5 +1,5 @@
 -- How the table keeps its grants on lists. No public clause cites this module.
-use Rattle.std.specs.Prelude.{◌≡◌, ℕ, ◌<◌, ◌≤◌, ◌%◌, List, Option, Some}
+use Rattle.std.specs.Prelude.{◌≡◌, ℕ, ◌<◌, ◌≤◌, ◌%◌, List, Some}
 use Rattle.cl_lists.specs.declared.arena.Arena.{Arena}
 use Rattle.cl_lists.specs.declared.slots.Side.{Side}
 use Rattle.cl_lists.specs.declared.slots.Side.TheVariants.{X, Y}

@@ -15,8 +15,8 @@ use std::alloc::Global;
 /// The locks that transactions hold at the places of a replica, each a table and a key.
 ///
 /// Contracts see the grants at each place, in order of grant (`grants_at`), and which mode a
-/// transaction holds where (`held`). A lock is found by its place or its transaction without a walk
-/// over all of them.
+/// transaction holds where (`held`). A lock stands on one of 1,024 lists by its key, and on one of 64
+/// by its session. Sessions are 1 to 64, so such a list has the locks of one session.
 #[derive(Debug, Drop)]
 pub struct Locks {
     // Each lock is on the list of its key on side X, and on that of its session on side Y.
@@ -26,8 +26,10 @@ pub struct Locks {
 }
 
 impl Locks {
-    ghost use Rattle.std.specs.Prelude.{◌↔◌, ◌++◌, ◌∷◌, [], Some, None, Err, OnErr, IfOk, IfSome, if◌then◌else◌, ◌&&◌, option_and_then};
-    ghost use Rattle.cl_lists.specs.Arena.{item_at, IsInUse, Unlinks};
+    ghost use Rattle.std.specs.Prelude.{◌↔◌, ◌++◌, ◌∷◌, [], Some, None, Err, OnErr, IfOk, IfSome, if◌then◌else◌, ◌&&◌, option_and_then, Bool, find};
+    ghost use Rattle.std.specs.Fn.{FnReturnsAt};
+    ghost use Rattle.cl_locks.specs.Listed as listed;
+    ghost use Rattle.cl_lists.specs.Arena.{item_at, items_on, IsInUse, Unlinks};
     ghost use Rattle.cl_types.specs.Modes.{stronger};
     ghost use Rattle.cl_types.specs.Places.{same_place};
     ghost use Rattle.cl_types.specs.Transactions.{same_txn};
@@ -44,7 +46,7 @@ impl Locks {
     }
 
     /// Asks for a lock of the transaction at a place. It is granted or refused at once, and after a
-    /// refusal the locks are as they were. Only a new lock takes memory.
+    /// refusal the locks are as they were. Only a new lock takes memory. It walks the list of the key.
     pub fn ask(
         &mut self,
         txn: TxnId,
@@ -55,6 +57,8 @@ impl Locks {
         ensures held { let place : Place = (table.now, key.now) in
             (holder : TxnId) → (result ≡ Err (LockRefused.Held holder))
             ↔ (first_conflict (grants_at self.old place) txn place mode ≡ Some holder) }
+        ensures free { let place : Place = (table.now, key.now) in
+            OnOk result (first_conflict (grants_at self.old place) txn place mode ≡ None) }
         ensures granted { let place : Place = (table.now, key.now) in
             IfOk result (λ granted. granted ≡ granted_as (held self.old txn place) mode) }
         ensures grants { let place : Place = (table.now, key.now) in
@@ -85,8 +89,8 @@ impl Locks {
         }
     }
 
-    /// Takes away each lock of the transaction, and no other. It takes no memory, and a step for
-    /// each lock on the list of the session.
+    /// Takes away each lock of the transaction, and no other. It takes no memory, and walks the list
+    /// of the session.
     pub fn release(&mut self, txn: TxnId)
         ensures grants { (place : Place) → grants_at self.new place ≡ without_txn txn (grants_at self.old place) }
         ensures modes { (t : TxnId) (place : Place) → held self.new t place
@@ -101,7 +105,8 @@ impl Locks {
         }
     }
 
-    /// The mode that the transaction holds at a place, or `None` where it holds no lock there.
+    /// The mode that the transaction holds at a place, or `None` where it holds no lock there. It
+    /// walks the list of the key.
     pub fn holds(&self, txn: TxnId, table: &TableName, key: &Key) -> Option<Mode>
         ensures { result ≡ held self.now txn (table.now, key.now) }
     {
@@ -114,15 +119,8 @@ impl Locks {
         ensures { let place : Place = (table.now, key.now) in
             result ≡ first_conflict (grants_at self.now place) txn place mode }
     {
-        let mut next = self.granted.first(Side::X, place_list(key));
-        while let Some(slot) = next {
-            let lock = self.granted.get(slot);
-            if lock.is_in_conflict(txn, table, key, mode) {
-                return Some(lock.txn);
-            }
-            next = self.granted.next(Side::X, slot);
-        }
-        None
+        let slot = self.find(key, |lock| lock.is_in_conflict(txn, table, key, mode))?;
+        Some(self.granted.get(slot).txn)
     }
 
     // The slot of the transaction's lock at a place.
@@ -131,9 +129,20 @@ impl Locks {
             option_and_then (item_at self.now.granted) result ≡ own_grant (grants_at self.now place) txn place }
         ensures in_use { IfSome result (λ slot. IsInUse self.now.granted slot) }
     {
+        self.find(key, |lock| lock.is_of(txn, table, key))
+    }
+
+    // The slot of the first lock, in order of grant, on the list of the key that meets the test.
+    fn find<F: Fn(&Lock) -> bool>(&self, key: &Key, meets: F) -> Option<Slot>
+        requires { F.IsAlwaysCallable meets }
+        ensures grant { (test : Grant → Bool)
+            → ((grant : Grant) (answer : Bool) → FnReturnsAt F.Fn meets grant answer → answer ≡ test grant)
+            → option_and_then (item_at self.now.granted) result ≡ find test (items_on self.now.granted Side.X (listed.place_list key.now)) }
+        ensures in_use { IfSome result (λ slot. IsInUse self.now.granted slot) }
+    {
         let mut next = self.granted.first(Side::X, place_list(key));
         while let Some(slot) = next {
-            if self.granted.get(slot).is_of(txn, table, key) {
+            if meets(self.granted.get(slot)) {
                 return Some(slot);
             }
             next = self.granted.next(Side::X, slot);

@@ -1,4 +1,4 @@
-use Rattle.std.proofs.Common.{◌≡◌, ◌≤◌, ◌∙◌, length, ap, sym, subst, arith, Result, Ok, Err, OnOk}
+use Rattle.std.proofs.Common.{◌≤◌, arith, Result, Ok, Err, OnOk}
 use Rattle.cl_lists.specs.declared.slots.Side.TheVariants.{X, Y}
 use Rattle.cl_lists.specs.Arena.{list_count}
 use Rattle.cl_locks.proofs.Listed.{HasRoomFor-all}

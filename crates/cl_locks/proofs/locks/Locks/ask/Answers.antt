@@ -3,7 +3,7 @@ use Rattle.cl_lists.specs.Arena.{item_at}
 use Rattle.cl_types.specs.Places.{Place, same_place}
 use Rattle.cl_locks.specs.Grants.{Grant}
 use Rattle.cl_locks.specs.Table.{grants_at}
-use Rattle.cl_locks.proofs.Asking.{grant_of, free-own, IsGranted, IsGranted-new, IsGranted-again, modes-granted}
+use Rattle.cl_locks.proofs.Asking.{grant_of, free-own, IsGranted-new, IsGranted-again, modes-granted}
 use Rattle.cl_locks.proofs.locks.Locks.ask.Goals as goal
 
 pub strengthen-requires-clause-free : goal.strengthen-requires-clause-free

@@ -1,5 +1,3 @@
-use Rattle.std.proofs.Common.{◌≡◌, List, subst, sym}
-use Rattle.cl_locks.specs.Grants.{Grant, are_compatible}
 use Rattle.cl_locks.specs.Table.{grants_at}
 use Rattle.cl_locks.proofs.Compatible.{are_compatible-none}
 use Rattle.cl_locks.proofs.Listed.{IsListed-new, grants_on-new}

@@ -6,14 +6,14 @@ use Rattle.cl_types.specs.Transactions.{same_txn}
 use Rattle.cl_locks.specs.Grants.{without_txn}
 use Rattle.cl_locks.specs.Listed.{txn_list}
 use Rattle.cl_locks.specs.Table.{grants_at}
-use Rattle.cl_locks.proofs.Walks.{IsSearched, from_slot}
+use Rattle.cl_locks.proofs.Walks.{HasPassed, FindsNone, from_slot}
 use Rattle.cl_locks.proofs.locks.Locks.release.Given as goal
 
 -- the grants of other transactions stay, and no lock before is of the transaction
 abbrev pub invariant-loop-next : goal.invariant-loop-next
 invariant-loop-next l = record {
   others : (place : Place) → without_txn l.txn (grants_at l.self place) ≡ without_txn l.txn (grants_at l.fn.self place);
-  cleared : IsSearched l.self.granted (λ grant. same_txn l.txn grant.txn) (list_of l.self.granted Y (txn_list l.txn)) l.next;
+  cleared : HasPassed l.self.granted (FindsNone (λ grant. same_txn l.txn grant.txn)) (list_of l.self.granted Y (txn_list l.txn)) l.next;
 }
 
 -- each step leaves one slot less

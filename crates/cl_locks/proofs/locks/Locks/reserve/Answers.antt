@@ -1,5 +1,3 @@
-use Rattle.std.proofs.Common.{◌≡◌, true, subst, sym}
-use Rattle.cl_locks.specs.Grants.{are_compatible}
 use Rattle.cl_locks.specs.Table.{grants_at}
 use Rattle.cl_locks.proofs.Listed.{IsListed-kept, grants_on-kept}
 use Rattle.cl_locks.proofs.locks.Locks.reserve.Goals as goal
