@@ -1,9 +1,9 @@
-mod Examples
-pub mod Asking
+mod Asking
 pub mod Compatible
+mod Examples
 pub mod GrantLists
 pub mod Granting
-pub mod Listed
-pub mod TableFacts
+mod Listed
 pub mod TableLaws
-pub mod Walks
+mod TableFacts
+mod Walks

@@ -20,11 +20,11 @@ use Rattle.cl_locks.proofs.Granting.{at_place-after_grant, mode_held-at_place, m
 pub IsTableOf-empty : (locks : Locks) → ((place : Place) → grants_at locks place ≡ []) → IsTableOf locks []
 IsTableOf-empty locks empty = λ place. empty place ∙ sym (at_place-none place)
 
-pub first_conflict-table : (locks : Locks) (grants : List Grant) → IsTableOf locks grants → (txn : TxnId) (place : Place) (mode : Mode) → first_conflict (grants_at locks place) txn place mode ≡ first_conflict grants txn place mode
-first_conflict-table locks grants table txn place mode = ap (λ (gs : List Grant). first_conflict gs txn place mode) (table place) ∙ first_conflict-at_place grants txn place mode
+pub first_conflict-table : (locks : Locks) (grants : List Grant) (txn : TxnId) (place : Place) (mode : Mode) → IsTableOf locks grants → first_conflict (grants_at locks place) txn place mode ≡ first_conflict grants txn place mode
+first_conflict-table locks grants txn place mode table = ap (λ (gs : List Grant). first_conflict gs txn place mode) (table place) ∙ first_conflict-at_place grants txn place mode
 
-pub held-table : (locks : Locks) (grants : List Grant) → IsTableOf locks grants → (txn : TxnId) (place : Place) → held locks txn place ≡ mode_held grants txn place
-held-table locks grants table txn place = ap (λ (gs : List Grant). mode_held gs txn place) (table place) ∙ mode_held-at_place grants txn place
+pub held-table : (locks : Locks) (grants : List Grant) (txn : TxnId) (place : Place) → IsTableOf locks grants → held locks txn place ≡ mode_held grants txn place
+held-table locks grants txn place table = ap (λ (gs : List Grant). mode_held gs txn place) (table place) ∙ mode_held-at_place grants txn place
 
 pub IsTableOf-granted : (old new : Locks) (grants : List Grant) (grant : Grant) → IsTableOf old grants → ((place : Place) → grants_at new place ≡ cond (same_place grant.place place) (after_grant (grants_at old place) grant) (grants_at old place)) → IsTableOf new (after_grant grants grant)
 IsTableOf-granted old new grants grant table gives = λ place.

@@ -22,11 +22,13 @@ is_of txn place grant = same_txn txn grant.txn && same_place place grant.place
 
 -- whether a grant is another transaction's at the place, in a mode that conflicts
 abbrev pub is_in_conflict : TxnId → Place → Mode → Grant → Bool
-is_in_conflict txn place mode grant = same_place place grant.place && (not (same_txn txn grant.txn) && is_conflict (Some grant.mode) (Some mode))
+is_in_conflict txn place mode grant =
+    same_place place grant.place && (not (same_txn txn grant.txn) && is_conflict (Some grant.mode) (Some mode))
 
 -- the transaction of the first grant in conflict
 unfoldable pub first_conflict : List Grant → TxnId → Place → Mode → Option TxnId
-first_conflict grants txn place mode = option_map (λ grant. grant.txn) (find (is_in_conflict txn place mode) grants)
+first_conflict grants txn place mode =
+    option_map (λ grant. grant.txn) (find (is_in_conflict txn place mode) grants)
 
 -- the first grant of the transaction at the place
 unfoldable pub own_grant : List Grant → TxnId → Place → Option Grant
@@ -55,7 +57,7 @@ granted_as (Some Shared) Shared = Already
 granted_as (Some Shared) Exclusive = Stronger
 granted_as (Some Exclusive) mode = Already
 
--- the grants with one that is granted so: a stronger one takes the place of the one before, and stands last
+-- the grants with one that is granted so: a stronger one replaces the one before, and stands last
 abbrev pub with_grant : Granted → List Grant → Grant → List Grant
 with_grant New grants grant = grants ++ grant ∷ []
 with_grant Stronger grants grant = without_lock grant.txn grant.place grants ++ grant ∷ []
@@ -63,9 +65,10 @@ with_grant Already grants grant = grants
 
 -- the grants after a request is granted
 unfoldable pub after_grant : List Grant → Grant → List Grant
-after_grant grants grant = with_grant (granted_as (mode_held grants grant.txn grant.place) grant.mode) grants grant
+after_grant grants grant =
+    with_grant (granted_as (mode_held grants grant.txn grant.place) grant.mode) grants grant
 
--- whether two grants at one place may stand together: of two transactions, and in modes that do not conflict
+-- whether two grants at one place may stand together: they are of two transactions, and do not conflict
 abbrev pub is_compatible : Grant → Grant → Bool
 is_compatible a b = not (same_txn a.txn b.txn) && not (is_conflict (Some a.mode) (Some b.mode))
 

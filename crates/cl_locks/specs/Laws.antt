@@ -17,23 +17,26 @@ EmptyIsTable = (locks : Locks) → ((place : Place) → grants_at locks place �
 
 -- the first grant in conflict at a place is the first of the whole list
 abbrev pub OneFirstConflict : Type 0
-OneFirstConflict = (locks : Locks) (grants : List Grant) → IsTableOf locks grants → (txn : TxnId) (place : Place) (mode : Mode) →
+OneFirstConflict = (locks : Locks) (grants : List Grant) (txn : TxnId) (place : Place) (mode : Mode) → IsTableOf locks grants →
     first_conflict (grants_at locks place) txn place mode ≡ first_conflict grants txn place mode
 
 -- the mode that is held is that of the whole list
 abbrev pub OneModeHeld : Type 0
-OneModeHeld = (locks : Locks) (grants : List Grant) → IsTableOf locks grants → (txn : TxnId) (place : Place) → held locks txn place ≡ mode_held grants txn place
+OneModeHeld = (locks : Locks) (grants : List Grant) (txn : TxnId) (place : Place) → IsTableOf locks grants →
+    held locks txn place ≡ mode_held grants txn place
 
 -- what a granted request does at each place, it does to the whole list
 abbrev pub GrantMakesTable : Type 0
 GrantMakesTable = (old new : Locks) (grants : List Grant) (grant : Grant) → IsTableOf old grants →
-    ((place : Place) → grants_at new place ≡ (if same_place grant.place place then after_grant (grants_at old place) grant else grants_at old place)) →
+    ((place : Place) → grants_at new place ≡
+    (if same_place grant.place place then after_grant (grants_at old place) grant else grants_at old place)) →
     IsTableOf new (after_grant grants grant)
 
 -- and so does a release
 abbrev pub ReleaseMakesTable : Type 0
 ReleaseMakesTable = (old new : Locks) (grants : List Grant) (txn : TxnId) → IsTableOf old grants →
-    ((place : Place) → grants_at new place ≡ without_txn txn (grants_at old place)) → IsTableOf new (without_txn txn grants)
+    ((place : Place) → grants_at new place ≡ without_txn txn (grants_at old place)) →
+    IsTableOf new (without_txn txn grants)
 
 -- ---- at each place
 
@@ -47,11 +50,13 @@ GrantsAreCompatible = (locks : Locks) (place : Place) → IsTrue (are_compatible
 
 -- so the modes of two transactions do not conflict
 abbrev pub ModesAreCompatible : Type 0
-ModesAreCompatible = (locks : Locks) (place : Place) (a b : TxnId) → same_txn a b ≡ false → is_conflict (held locks a place) (held locks b place) ≡ false
+ModesAreCompatible = (locks : Locks) (place : Place) (a b : TxnId) → same_txn a b ≡ false →
+    is_conflict (held locks a place) (held locks b place) ≡ false
 
 -- the first holder in conflict is another transaction, which holds a mode that conflicts
 abbrev pub FirstConflictHolds : Type 0
-FirstConflictHolds = (locks : Locks) (txn holder : TxnId) (place : Place) (mode : Mode) → first_conflict (grants_at locks place) txn place mode ≡ Some holder →
+FirstConflictHolds = (locks : Locks) (txn holder : TxnId) (place : Place) (mode : Mode) →
+    first_conflict (grants_at locks place) txn place mode ≡ Some holder →
     (same_txn txn holder ≡ false) × (is_conflict (held locks holder place) (Some mode) ≡ true)
 
 -- and there is none where no other transaction holds such a mode

@@ -29,7 +29,8 @@ impl Model for Lock {
 
     ghost Value = { Grant };
 
-    ghost view = { λ lock. record { txn = lock.txn; place = (lock.table, lock.key); mode = lock.mode } };
+    ghost view = { λ lock.
+        record { txn = lock.txn; place = (lock.table, lock.key); mode = lock.mode } };
 }
 
 impl Lock {

@@ -15,8 +15,8 @@ use std::alloc::Global;
 /// The locks that transactions hold at the places of a replica, each a table and a key.
 ///
 /// Contracts see the grants at each place, in order of grant (`grants_at`), and which mode a
-/// transaction holds where (`held`). A lock stands on one of 1,024 lists by its key, and on one of 64
-/// by its session. Sessions are 1 to 64, so such a list has the locks of one session.
+/// transaction holds where (`held`). A lock stands on one of 1,024 lists by its key, and on one of
+/// 64 by its session. Sessions are 1 to 64, so such a list has the locks of one session.
 #[derive(Debug, Drop)]
 pub struct Locks {
     // Each lock is on the list of its key on side X, and on that of its session on side Y.
@@ -46,7 +46,8 @@ impl Locks {
     }
 
     /// Asks for a lock of the transaction at a place. It is granted or refused at once, and after a
-    /// refusal the locks are as they were. Only a new lock takes memory. It walks the list of the key.
+    /// refusal the locks are as they were. Only a new lock takes memory. It walks the list of the
+    /// key.
     pub fn ask(
         &mut self,
         txn: TxnId,
@@ -63,13 +64,16 @@ impl Locks {
             IfOk result (λ granted. granted ≡ granted_as (held self.old txn place) mode) }
         ensures grants { let place : Place = (table.now, key.now) in
             let grant : Grant = record { txn = txn; place = place; mode = mode } in
-            OnOk result ((other : Place) → grants_at self.new other
-            ≡ (if same_place place other then after_grant (grants_at self.old other) grant else grants_at self.old other)) }
+            OnOk result ((other : Place) → grants_at self.new other ≡ (if same_place place other
+            then after_grant (grants_at self.old other) grant else grants_at self.old other)) }
         ensures modes { let place : Place = (table.now, key.now) in
             OnOk result ((t : TxnId) (p : Place) → held self.new t p
-            ≡ (if same_txn txn t && same_place place p then stronger (held self.old t p) (Some mode) else held self.old t p)) }
-        ensures memory { result ≡ Err LockRefused.NoMemory → held self.old txn (table.now, key.now) ≡ None }
-        ensures err { OnErr result ((place : Place) → grants_at self.new place ≡ grants_at self.old place) }
+            ≡ (if same_txn txn t && same_place place p
+            then stronger (held self.old t p) (Some mode) else held self.old t p)) }
+        ensures memory { result ≡ Err LockRefused.NoMemory
+            → held self.old txn (table.now, key.now) ≡ None }
+        ensures err { OnErr result ((place : Place) →
+            grants_at self.new place ≡ grants_at self.old place) }
     {
         if let Some(holder) = self.first_conflict(txn, table, key, mode) {
             return Err(LockRefused::Held(holder));
@@ -89,10 +93,11 @@ impl Locks {
         }
     }
 
-    /// Takes away each lock of the transaction, and no other. It takes no memory, and walks the list
-    /// of the session.
+    /// Takes away each lock of the transaction, and no other. It takes no memory, and walks the
+    /// list of the session.
     pub fn release(&mut self, txn: TxnId)
-        ensures grants { (place : Place) → grants_at self.new place ≡ without_txn txn (grants_at self.old place) }
+        ensures grants { (place : Place) → grants_at self.new place
+            ≡ without_txn txn (grants_at self.old place) }
         ensures modes { (t : TxnId) (place : Place) → held self.new t place
             ≡ (if same_txn txn t then None else held self.old t place) }
     {
@@ -126,7 +131,8 @@ impl Locks {
     // The slot of the transaction's lock at a place.
     fn slot_of(&self, txn: TxnId, table: &TableName, key: &Key) -> Option<Slot>
         ensures grant { let place : Place = (table.now, key.now) in
-            option_and_then (item_at self.now.granted) result ≡ own_grant (grants_at self.now place) txn place }
+            option_and_then (item_at self.now.granted) result
+            ≡ own_grant (grants_at self.now place) txn place }
         ensures in_use { IfSome result (λ slot. IsInUse self.now.granted slot) }
     {
         self.find(key, |lock| lock.is_of(txn, table, key))
@@ -136,8 +142,10 @@ impl Locks {
     fn find<F: Fn(&Lock) -> bool>(&self, key: &Key, meets: F) -> Option<Slot>
         requires { F.IsAlwaysCallable meets }
         ensures grant { (test : Grant → Bool)
-            → ((grant : Grant) (answer : Bool) → FnReturnsAt F.Fn meets grant answer → answer ≡ test grant)
-            → option_and_then (item_at self.now.granted) result ≡ find test (items_on self.now.granted Side.X (listed.place_list key.now)) }
+            → ((grant : Grant) (answer : Bool)
+            → FnReturnsAt F.Fn meets grant answer → answer ≡ test grant)
+            → option_and_then (item_at self.now.granted) result
+            ≡ find test (items_on self.now.granted Side.X (listed.place_list key.now)) }
         ensures in_use { IfSome result (λ slot. IsInUse self.now.granted slot) }
     {
         let mut next = self.granted.first(Side::X, place_list(key));
@@ -157,9 +165,11 @@ impl Locks {
             → first_conflict (grants_at self.old grant.place) grant.txn grant.place mode ≡ None }
         ensures granted { (grant : Grant) → item_at self.old.granted slot ≡ Some grant
             → result ≡ granted_as (Some grant.mode) mode }
-        ensures grants { (grant : Grant) (place : Place) → item_at self.old.granted slot ≡ Some grant
+        ensures grants { (grant : Grant) (place : Place)
+            → item_at self.old.granted slot ≡ Some grant
             → grants_at self.new place ≡ (if same_place grant.place place
-            then with_grant result (grants_at self.old place) (record grant { mode = mode }) else grants_at self.old place) }
+            then with_grant result (grants_at self.old place) (record grant { mode = mode })
+            else grants_at self.old place) }
     {
         match (self.granted.get(slot).mode, mode) {
             (Mode::Shared, Mode::Exclusive) => {
@@ -184,9 +194,10 @@ impl Locks {
     fn push(&mut self, lock: Lock)
         requires room { HasRoomFor self.old.granted lock }
         requires only { own_grant (grants_at self.old lock.place) lock.txn lock.place ≡ None }
-        requires free { first_conflict (grants_at self.old lock.place) lock.txn lock.place lock.mode ≡ None }
-        ensures { (place : Place) → grants_at self.new place
-            ≡ (if same_place lock.place place then grants_at self.old place ++ lock ∷ [] else grants_at self.old place) }
+        requires free { let before = grants_at self.old lock.place in
+            first_conflict before lock.txn lock.place lock.mode ≡ None }
+        ensures { (place : Place) → grants_at self.new place ≡ (if same_place lock.place place
+            then grants_at self.old place ++ lock ∷ [] else grants_at self.old place) }
     {
         let x = place_list(&lock.key);
         let y = txn_list(lock.txn);
@@ -218,7 +229,8 @@ fn add_missing_lists(granted: &mut Arena<Lock>, side: Side, count: u32) -> Resul
     requires { count < 2 ^ 31 }
     ensures kept { IsKept granted.old granted.new }
     ensures ok { OnOk result (count ≤ list_count granted.new side) }
-    ensures other { list_count granted.new (opposite side) ≡ list_count granted.old (opposite side) }
+    ensures other { list_count granted.new (opposite side)
+        ≡ list_count granted.old (opposite side) }
 {
     let missing = count.saturating_sub(granted.lists(side));
     granted.add_lists(side, missing)

@@ -144,6 +144,25 @@ fn a_release_leaves_the_session_s_other_transactions(rt: HostRuntime) -> Result<
     Ok(())
 }
 
+// Where an allocation fails, the next request finds the table as it was.
+#[test]
+fn a_want_of_memory_leaves_the_locks(rt: HostRuntime) -> Result<(), Fail> {
+    let (t, a) = place(b"a")?;
+    let mut locks = Locks::new(rt.alloc());
+    let mut granted = locks.ask(FIRST, &t, &a, Mode::Exclusive);
+    if granted == Err(LockRefused::NoMemory) {
+        assert_eq!(rt; locks.holds(FIRST, &t, &a), None);
+        granted = locks.ask(FIRST, &t, &a, Mode::Exclusive);
+    }
+    assert_eq!(rt; granted, Ok(Granted::New));
+    assert_eq!(rt; locks.holds(FIRST, &t, &a), Some(Mode::Exclusive));
+    assert_eq!(rt;
+        locks.ask(SECOND, &t, &a, Mode::Shared),
+        Err(LockRefused::Held(FIRST))
+    );
+    Ok(())
+}
+
 fn moves<T: Send + Drop>(_value: T) {}
 
 #[test]
