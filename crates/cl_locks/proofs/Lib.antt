@@ -1,0 +1,9 @@
+mod Asking
+pub mod Compatible
+mod Examples
+pub mod GrantLists
+pub mod Granting
+mod Listed
+pub mod TableLaws
+mod TableFacts
+mod Walks
