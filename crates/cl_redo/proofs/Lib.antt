@@ -1,0 +1,4 @@
+pub mod Follows
+pub mod Guards
+pub mod InTurn
+pub mod Meets
