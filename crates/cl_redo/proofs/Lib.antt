@@ -2,3 +2,4 @@ pub mod Follows
 pub mod Guards
 pub mod InTurn
 pub mod Meets
+pub mod Skips

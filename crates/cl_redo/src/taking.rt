@@ -1,10 +1,11 @@
 //! Taking the next record of a log.
-ghost use Rattle.std.specs.Prelude.{◌≡◌, ◌≢◌, ◌≤◌, ◌<◌, ◌+◌, ◌^◌, ◌++◌, ◌∷◌, [], true, false, ◌&&◌, if◌then◌else◌, Some, IsOk, IfOk, OnOk, OnErr};
+ghost use Rattle.std.specs.Prelude.{◌≡◌, ◌↔◌, ◌≢◌, ◌≤◌, ◌<◌, ◌+◌, ◌^◌, ◌++◌, ◌∷◌, [], true, false, ◌&&◌, if◌then◌else◌, Some, IsOk, IfOk, OnOk, OnErr};
 ghost use Rattle.cl_types.specs.declared.operations.TxnId.{TxnId};
 ghost use Rattle.cl_types.specs.Modes.{is_conflict, stronger};
 ghost use Rattle.cl_types.specs.Places.{Place, same_place};
 ghost use Rattle.cl_types.specs.Transactions.{same_txn};
 ghost use Rattle.cl_log.specs.Log.{entries, next_number, spare as spare_of_log};
+ghost use Rattle.cl_log.specs.Kind.{writes};
 ghost use Rattle.cl_log.specs.Locks.{locks_after};
 ghost use Rattle.cl_log.specs.Store.{redo_by_guard};
 ghost use Rattle.cl_locks.specs.Table.{grants_at, held};
@@ -68,6 +69,7 @@ fn redo(
     ensures store { OnOk result ((place : Place) → stored store.new place ≡ redo_by_guard place (stored store.old place) (record { number = number; content = entry.now })) }
     ensures locks { OnOk result ((place : Place) → grants_at locks.new place ≡ grants_after entry.now place (grants_at locks.old place)) }
     ensures modes { OnOk result ((txn : TxnId) (place : Place) → held locks.new txn place ≡ locks_after (held locks.old) (record { number = number; content = entry.now }) txn place) }
+    ensures spare { spare store.old ≤ spare store.new + 1 }
     ensures err_store { OnErr result ((place : Place) → stored store.new place ≡ stored store.old place) }
     ensures err_locks { OnErr result ((place : Place) → grants_at locks.new place ≡ grants_at locks.old place) }
     ensures roomy { needs_no_memory entry.now ≡ true → IsOk result }
@@ -115,11 +117,14 @@ pub fn take(
     requires free { IsFree (held locks.old) entry }
     requires unended { IsUnended (entries log.old) entry }
     ensures redone { IfOk result (λ redone. redone ≡ redone_as (stored store.old) entry) }
+    ensures skipped { IfOk result (λ redone. (place : Place) → writes place entry ≡ true
+        → (redone ≡ Redone.Skipped) ↔ (number ≤ (stored store.old place).0)) }
     ensures store { OnOk result ((place : Place) → stored store.new place ≡ redo_by_guard place (stored store.old place) (record { number = number; content = entry })) }
     ensures grants { OnOk result ((place : Place) → grants_at locks.new place ≡ grants_after entry place (grants_at locks.old place)) }
     ensures locks { OnOk result ((txn : TxnId) (place : Place) → held locks.new txn place ≡ locks_after (held locks.old) (record { number = number; content = entry }) txn place) }
     ensures log { OnOk result (entries log.new ≡ entries log.old ++ record { number = number; content = entry } ∷ []) }
     ensures next { OnOk result (next_number log.new ≡ number + 1) }
+    ensures room { (spare store.old ≤ spare store.new + 1) × (spare_of_log log.old ≤ spare_of_log log.new + 1) }
     ensures store_of_log { OnOk result (IsStoreOf (stored store.old) (entries log.old) → IsStoreOf (stored store.new) (entries log.new)) }
     ensures locks_of_log { OnOk result (AreLocksOf (held locks.old) (entries log.old) → AreLocksOf (held locks.new) (entries log.new)) }
     ensures err_store { OnErr result ((place : Place) → stored store.new place ≡ stored store.old place) }

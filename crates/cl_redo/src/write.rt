@@ -1,5 +1,5 @@
 //! The write of a record: made ready by guard, and then made.
-ghost use Rattle.std.specs.Prelude.{◌≡◌, ◌≤◌, ◌<◌, ◌==◌, true, IfOk, if◌then◌else◌, neg_ℤ};
+ghost use Rattle.std.specs.Prelude.{◌≡◌, ◌+◌, ◌≤◌, ◌<◌, ◌==◌, true, IfOk, if◌then◌else◌, neg_ℤ};
 ghost use Rattle.std.specs.Option.{option_copied};
 ghost use Rattle.cl_types.specs.Places.{Place, same_place};
 ghost use Rattle.cl_log.specs.Kind.{writes, number_before};
@@ -74,6 +74,7 @@ pub(crate) fn guard(
 ) -> Result<Guarded, NoMemory>
     requires { before ≡ (stored store.old (table.now, key.now)).0 → Fits entry.now (stored store.old (table.now, key.now)).1 }
     ensures same { (place : Place) → stored store.new place ≡ stored store.old place }
+    ensures kept { spare store.old ≤ spare store.new }
     ensures guarded { IfOk result (λ write. write ≡ guarded entry.now before (stored store.old (table.now, key.now))) }
     ensures room { IfOk result (λ write. CanWrite write (spare store.new)) }
 {
@@ -96,6 +97,7 @@ pub(crate) fn finish(
 ) -> Redone
     requires above { IsAbove write number (stored store.old (table.now, key.now)) }
     requires room { CanWrite write (spare store.old) }
+    ensures spare { spare store.old ≤ spare store.new + 1 }
     ensures redone { result ≡ redone_of write }
     ensures store { (place : Place) → stored store.new place
         ≡ (if same_place (table.now, key.now) place then after_write number write (stored store.old place) else stored store.old place) }

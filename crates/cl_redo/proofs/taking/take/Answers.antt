@@ -6,6 +6,7 @@ use Rattle.cl_log.specs.Store.{store_of_log}
 use Rattle.cl_locks.specs.Table.{held}
 use Rattle.cl_store.specs.Store.{stored}
 use Rattle.cl_redo.proofs.Follows.{store_follows, locks_follow}
+use Rattle.cl_redo.proofs.Skips.{skipped-ahead}
 use Rattle.cl_redo.proofs.taking.take.Goals as goal
 
 pub returns-clause-store_of_log : goal.returns-clause-store_of_log
@@ -23,3 +24,6 @@ returns-clause-locks_of_log c are_locks txn place =
     c.in_ok-redone.ensures.modes txn place
     ∙ locks_follow c.args.log.now entry (held c.args.locks.now) c.requires.unended are_locks txn place
     ∙ ap (λ (es : List Entry). locks_of_log es txn place) (sym appended)
+
+pub returns-clause-skipped : goal.returns-clause-skipped
+returns-clause-skipped c = skipped-ahead (stored c.args.store.now) (record { number = c.args.number; content = c.args.entry }) c.requires.meets c.in_ok-redone.redone c.in_ok-redone.ensures.redone
