@@ -1,0 +1,5 @@
+pub mod Follows
+pub mod Guards
+pub mod InTurn
+pub mod Meets
+pub mod Skips

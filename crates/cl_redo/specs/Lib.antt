@@ -1,0 +1,4 @@
+pub mod Condition
+pub mod Laws
+pub mod Redo
+pub mod Write

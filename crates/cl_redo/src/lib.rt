@@ -1,0 +1,13 @@
+//! Redo at a standby or a spare: the store and the locks follow the log, record by record.
+#![tactic(auto)]
+
+mod laws;
+mod redone;
+mod taking;
+#[cfg(test)]
+mod tests;
+mod write;
+
+pub use laws::{taking_gives_store_and_locks, taking_on_a_copy};
+pub use redone::Redone;
+pub use taking::{reserve, take};

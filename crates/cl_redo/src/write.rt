@@ -1,0 +1,112 @@
+//! The write of a record: made ready by guard, and then made.
+ghost use Rattle.std.specs.Prelude.{◌≡◌, ◌+◌, ◌≤◌, ◌<◌, ◌==◌, true, IfOk, if◌then◌else◌, neg_ℤ};
+ghost use Rattle.std.specs.Option.{option_copied};
+ghost use Rattle.cl_types.specs.Places.{Place, same_place};
+ghost use Rattle.cl_log.specs.Kind.{writes, number_before};
+ghost use Rattle.cl_log.specs.Store.{value_after, less};
+ghost use Rattle.cl_store.specs.Store.{stored, spare};
+ghost use Rattle.cl_redo.specs.Condition.{Fits, HasSum};
+ghost use Rattle.cl_redo.specs.Write.{guarded, redone_of, after_write, CanWrite, IsAbove};
+
+use crate::Redone;
+use cl_log::{Form, LogRec};
+use cl_store::Store;
+use cl_types::{Key, NoMemory, Op, TableName, Value, apply_op, number_of};
+use std::alloc::Global;
+
+// A write by guard: the value to be written, or nothing to be done.
+#[derive(Debug, Drop)]
+pub(crate) enum Guarded {
+    Write(Option<Value>),
+    Skip,
+}
+
+// Another value of the same bytes, where there is one.
+fn copy_of(alloc: Global, value: Option<&Value>) -> Result<Option<Value>, NoMemory>
+    ensures { IfOk result (λ copied. copied ≡ option_copied value.entry) }
+{
+    match value {
+        Some(value) => Ok(Some(value.copy(alloc)?)),
+        None => Ok(None),
+    }
+}
+
+// The number that the value is, less the amount.
+fn difference(alloc: Global, value: Option<&Value>, amount: i64) -> Result<Option<Value>, NoMemory>
+    requires { HasSum (neg_ℤ amount) (option_copied value) }
+    ensures { IfOk result (λ difference. difference ≡ less amount (option_copied value.entry)) }
+{
+    let Some(number) = value.and_then(|value| number_of(value)) else {
+        unreachable!()
+    };
+    Ok(Some(Value::of_number(alloc, number - amount)?))
+}
+
+// The value that a record leaves where this one stands.
+fn value_after(
+    alloc: Global,
+    entry: &LogRec,
+    value: Option<&Value>,
+) -> Result<Option<Value>, NoMemory>
+    requires { Fits entry.now (option_copied value) }
+    ensures { IfOk result (λ after. after ≡ value_after entry.now (option_copied value.entry)) }
+{
+    match entry {
+        LogRec::Set(_, _, _, _, _, new) => copy_of(alloc, new.as_ref()),
+        LogRec::Add(_, _, _, _, amount) => {
+            let (_, sum) = apply_op(alloc, &Op::Add(*amount), value)?;
+            Ok(sum)
+        }
+        LogRec::Comp(_, _, _, _, _, Form::Image(image)) => copy_of(alloc, image.as_ref()),
+        LogRec::Comp(_, _, _, _, _, Form::Amount(amount)) => difference(alloc, value, *amount),
+        _ => copy_of(alloc, value),
+    }
+}
+
+// Makes the write of a record at its place ready: does all that may fail, and changes no record.
+pub(crate) fn guard(
+    alloc: Global,
+    store: &mut Store,
+    table: &TableName,
+    key: &Key,
+    before: u64,
+    entry: &LogRec,
+) -> Result<Guarded, NoMemory>
+    requires { before ≡ (stored store.old (table.now, key.now)).0 → Fits entry.now (stored store.old (table.now, key.now)).1 }
+    ensures same { (place : Place) → stored store.new place ≡ stored store.old place }
+    ensures kept { spare store.old ≤ spare store.new }
+    ensures guarded { IfOk result (λ write. write ≡ guarded entry.now before (stored store.old (table.now, key.now))) }
+    ensures room { IfOk result (λ write. CanWrite write (spare store.new)) }
+{
+    let (number, value) = store.get(table, key);
+    if number != before {
+        return Ok(Guarded::Skip);
+    }
+    let value = value_after(alloc, entry, value)?;
+    store.reserve(1)?;
+    Ok(Guarded::Write(value))
+}
+
+// Makes a write that was made ready, under the record's number.
+pub(crate) fn finish(
+    store: &mut Store,
+    table: &TableName,
+    key: &Key,
+    number: u64,
+    write: Guarded,
+) -> Redone
+    requires above { IsAbove write number (stored store.old (table.now, key.now)) }
+    requires room { CanWrite write (spare store.old) }
+    ensures spare { spare store.old ≤ spare store.new + 1 }
+    ensures redone { result ≡ redone_of write }
+    ensures store { (place : Place) → stored store.new place
+        ≡ (if same_place (table.now, key.now) place then after_write number write (stored store.old place) else stored store.old place) }
+{
+    match write {
+        Guarded::Write(value) => {
+            store.write(table, key, value, number);
+            Redone::Applied
+        }
+        Guarded::Skip => Redone::Skipped,
+    }
+}
