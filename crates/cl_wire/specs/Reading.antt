@@ -1,5 +1,5 @@
 -- Reading the bytes from the left, to the message or to the first field that cannot be read.
-use Rattle.std.specs.Prelude.{◌≡◌, ℕ, zero, suc, ◌*◌, Bool, true, false, ◌&&◌, nat_le, nat_lt, slice_get, ◌==◌, if◌then◌else◌, List, [], ◌∷◌, length, take, drop, Option, Some, None, ℤ, Result, Ok, Err}
+use Rattle.std.specs.Prelude.{◌≡◌, ℕ, zero, suc, Bool, true, false, nat_le, nat_lt, slice_get, ◌==◌, if◌then◌else◌, List, [], ◌∷◌, length, take, drop, Option, Some, None, ℤ, Result, Ok, Err}
 use Rattle.std.specs.Int.{Width, w16, w32, w64, byte_len, from_be_bytes, cast_signed}
 use Rattle.cl_types.specs.Names.{is_between, is_table_name, is_key, is_value}
 use Rattle.cl_types.specs.declared.operations.TxnId.{TxnId}
@@ -22,6 +22,7 @@ use Rattle.cl_log.specs.declared.records.Form.TheVariants.{Image, Amount}
 use Rattle.cl_log.specs.declared.records.LogRec.{LogRec}
 use Rattle.cl_log.specs.declared.records.LogRec.TheVariants as entries
 use Rattle.cl_store.specs.declared.item.Item.{Item}
+use Rattle.cl_wire.specs.declared.decoding.Header.{Header}
 use Rattle.cl_wire.specs.declared.kind.Kind.{Kind}
 use Rattle.cl_wire.specs.declared.kind.Kind.TheVariants as kinds
 use Rattle.cl_wire.specs.declared.undecoded.WireFault.{WireFault}
@@ -173,42 +174,42 @@ unfoldable pub read_command : Reader ClientCommand
 read_command = do
   b ← read_byte
   if b == 0 then done Begin
-    else (if b == 5 then done Commit
-    else (if b == 6 then done Abort
-    else (if is_between 1 4 b then (read_work b >>= λ work. done (Work work.0 work.1 work.2)) else out_of_range)))
+      else (if b == 5 then done Commit
+      else (if b == 6 then done Abort
+      else (if is_between 1 4 b then (read_work b >>= λ work. done (Work work.0 work.1 work.2)) else out_of_range)))
 
 unfoldable pub read_reply : Reader Reply
 read_reply = do
   b ← read_byte
   if b == 0 then done replies.Stored
-    else (if b == 1 then (read_value >>= λ value. done (replies.Found value))
-    else (if b == 2 then done replies.Absent
-    else (if b == 3 then (read_amount >>= λ sum. done (replies.Sum sum))
-    else (if b == 4 then done replies.NotNumber
-    else (if b == 5 then done replies.OutOfRange else out_of_range)))))
+      else (if b == 1 then (read_value >>= λ value. done (replies.Found value))
+      else (if b == 2 then done replies.Absent
+      else (if b == 3 then (read_amount >>= λ sum. done (replies.Sum sum))
+      else (if b == 4 then done replies.NotNumber
+      else (if b == 5 then done replies.OutOfRange else out_of_range)))))
 
 unfoldable pub read_cause : Reader AbortCause
 read_cause = do
   b ← read_byte
   if b == 0 then (read_txn >>= λ holder. done (causes.Conflict holder))
-    else (if b == 1 then (read_between 0 15 >>= λ node. done (causes.Node node))
-    else (if b == 2 then done causes.Client
-    else (if b == 3 then done causes.Memory else out_of_range)))
+      else (if b == 1 then (read_between 0 15 >>= λ node. done (causes.Node node))
+      else (if b == 2 then done causes.Client
+      else (if b == 3 then done causes.Memory else out_of_range)))
 
 unfoldable pub read_outcome : Reader CommandOutcome
 read_outcome = do
   b ← read_byte
   if b == 0 then (read_reply >>= λ reply. done (outcomes.Done reply))
-    else (if b == 1 then done outcomes.Begun
-    else (if b == 2 then done outcomes.Committed
-    else (if b == 3 then (read_cause >>= λ cause. done (outcomes.Aborted cause)) else out_of_range)))
+      else (if b == 1 then done outcomes.Begun
+      else (if b == 2 then done outcomes.Committed
+      else (if b == 3 then (read_cause >>= λ cause. done (outcomes.Aborted cause)) else out_of_range)))
 
 unfoldable pub read_answer : Reader OpAnswer
 read_answer = do
   b ← read_byte
   if b == 0 then (read_reply >>= λ reply. done (answers.Done reply))
-    else (if b == 1 then (read_txn >>= λ holder. done (answers.Refused holder))
-    else (if b == 2 then done answers.NoMemory else out_of_range))
+      else (if b == 1 then (read_txn >>= λ holder. done (answers.Refused holder))
+      else (if b == 2 then done answers.NoMemory else out_of_range))
 
 unfoldable pub read_touch : Reader LogRec
 read_touch = do
@@ -258,12 +259,12 @@ unfoldable pub read_entry : Reader LogRec
 read_entry = do
   b ← read_byte
   if b == 1 then read_touch
-    else (if b == 2 then read_set
-    else (if b == 3 then read_add
-    else (if b == 4 then read_comp
-    else (if b == 5 then (read_txn >>= λ txn. done (entries.Prepared txn))
-    else (if b == 6 then read_end
-    else (if b == 7 then (read_txn >>= λ txn. done (entries.Decide txn)) else out_of_range))))))
+      else (if b == 2 then read_set
+      else (if b == 3 then read_add
+      else (if b == 4 then read_comp
+      else (if b == 5 then (read_txn >>= λ txn. done (entries.Prepared txn))
+      else (if b == 6 then read_end
+      else (if b == 7 then (read_txn >>= λ txn. done (entries.Decide txn)) else out_of_range))))))
 
 -- a record of a store
 unfoldable pub read_item : Reader Item
@@ -392,14 +393,6 @@ read_seq kind = do
 
 abbrev pub read_version : Reader ℕ
 read_version = read_between version version
-
-pub record Header : Type 0 where
-  pub kind : Kind
-  pub from : ℕ
-  pub to : ℕ
-  pub set : ℕ
-  pub seq : ℕ
-  pub ack : ℕ
 
 unfoldable pub read_header : Reader Header
 read_header = do

@@ -180,6 +180,10 @@ content_bytes (CopyAck v index) = byte v ++ number_32 index
 abbrev pub version : ℕ
 version = 1
 
--- a header of 24 bytes, and the fields of the kind
+-- a header of 24 bytes
+unfoldable pub header_bytes : Message → List ℕ
+header_bytes m = byte version ++ byte (kind_byte (kind_of m.content)) ++ byte m.from ++ byte m.to ++ number_32 m.set ++ number_64 m.seq ++ number_64 m.ack
+
+-- the header, and the fields of the kind
 unfoldable pub spelling : Message → List ℕ
-spelling m = byte version ++ byte (kind_byte (kind_of m.content)) ++ byte m.from ++ byte m.to ++ number_32 m.set ++ number_64 m.seq ++ number_64 m.ack ++ content_bytes m.content
+spelling m = header_bytes m ++ content_bytes m.content
