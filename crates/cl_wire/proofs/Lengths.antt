@@ -23,3 +23,6 @@ length-key name passes = within 1 32 name _ passes
 
 pub length-value : (value : List ℕ) → IsValue value → length value ≤ 128
 length-value value passes = within 1 128 value _ passes
+
+pub value_is_between : (value : List ℕ) → IsValue value → is_between 1 128 (length value) ≡ true
+value_is_between value passes = (and_parts (is_between 1 128 (length value)) _ passes).0

@@ -1,2 +1,10 @@
+pub mod AnswerLaws
+pub mod ContentLaws
+pub mod EntryLaws
 pub mod Lengths
+pub mod ListLaws
 pub mod Members
+pub mod NameLaws
+pub mod Nested
+pub mod NumberLaws
+pub mod Readers

@@ -21,7 +21,9 @@ use Rattle.cl_log.specs.declared.records.Form.TheVariants.{Image, Amount}
 use Rattle.cl_log.specs.declared.records.LogRec.{LogRec}
 use Rattle.cl_log.specs.declared.records.LogRec.TheVariants as entries
 use Rattle.cl_store.specs.declared.item.Item.{Item}
-use Rattle.cl_wire.specs.Message.{Content, Message, Bare, Command, Outcome, Ask, Answer, Prepare, Vote, Finish, Inquire, Decision, Log, LogAck, Repair, Records, Names, CopyAck}
+use Rattle.cl_wire.specs.declared.kind.Kind.{Kind}
+use Rattle.cl_wire.specs.declared.kind.Kind.TheVariants as kinds
+use Rattle.cl_wire.specs.Message.{Content, Message, kind_of, Bare, Command, Outcome, Ask, Answer, Prepare, Vote, Finish, Inquire, Decision, Log, LogAck, Repair, Records, Names, CopyAck}
 
 -- a node, or the front
 abbrev pub IsActor : ℕ → Type 0
@@ -152,15 +154,15 @@ IsContent (Names v index last low txns) = IsVirtualNode v × IsIndex index × (l
 IsContent (CopyAck v index) = IsVirtualNode v × IsIndex index
 
 -- a message is numbered from 1, and a bare acknowledgement has the number 0
-abbrev pub IsSeq : Content → ℕ → Type 0
-IsSeq Bare seq = seq ≡ 0
-IsSeq content seq = IsNumber seq
+abbrev pub IsSeq : Kind → ℕ → Type 0
+IsSeq kinds.Bare seq = seq ≡ 0
+IsSeq kind seq = IsNumber seq
 
 -- each field of the message is in its range
 pub record IsInRange (m : Message) : Type 0 where
   pub from : IsActor m.from
   pub to : IsActor m.to
   pub set : m.set < 2 ^ 32
-  pub seq : IsSeq m.content m.seq
+  pub seq : IsSeq (kind_of m.content) m.seq
   pub ack : m.ack < 2 ^ 64
   pub content : IsContent m.content

@@ -130,11 +130,16 @@ read_key = do
   text ← read_text
   checked (is_key text) text
 
--- two bytes of length, which is tested before the bytes are read
+-- the length of a value: 1 to 128
+unfoldable pub read_value_length : Reader ℕ
+read_value_length = do
+  count ← read_number w16
+  checked (is_between 1 128 count) count
+
+-- the length, and then that many bytes
 unfoldable pub read_value : Reader (List ℕ)
 read_value = do
-  stated ← read_number w16
-  count ← checked (is_between 1 128 stated) stated
+  count ← read_value_length
   text ← read_bytes count
   checked (is_value text) text
 

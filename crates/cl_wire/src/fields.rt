@@ -1,6 +1,6 @@
 //! Reading the fields of packets.
 ghost use Rattle.std.specs.Prelude.{◌≡◌};
-ghost use Rattle.cl_wire.specs.Reading.{Gives, Reads, read_place, read_mode, read_txn, read_text, read_table, read_key, read_value, read_image, read_form, read_operand, read_work, read_op, read_command, read_reply, read_cause, read_outcome, read_answer, read_item};
+ghost use Rattle.cl_wire.specs.Reading.{Gives, Reads, read_place, read_mode, read_txn, read_text, read_table, read_key, read_value_length, read_value, read_image, read_form, read_operand, read_work, read_op, read_command, read_reply, read_cause, read_outcome, read_answer, read_item};
 
 use crate::WireFault;
 use crate::reader::Reader;
@@ -8,7 +8,8 @@ use crate::undecoded::Undecoded;
 use cl_log::Form;
 use cl_store::Item;
 use cl_types::{
-    AbortCause, Answer, Command, Key, Mode, Op, Outcome, Reply, TableName, TxnId, Value,
+    AbortCause, Answer, Command, Key, Mode, Op, Outcome, Reply, TableName, TxnId, VALUE_MAX,
+    Value,
 };
 use std::alloc::Global;
 
@@ -80,17 +81,26 @@ impl<'a> Reader<'a> {
     }
 }
 
-#[tactic(auto, unfolding(crate::specs::Reading::read_value, crate::specs::Reading::read_image, crate::specs::Reading::read_form, crate::specs::Reading::read_operand, crate::specs::Reading::read_work, crate::specs::Reading::read_op, crate::specs::Reading::read_command, crate::specs::Reading::read_item))]
+#[tactic(auto, unfolding(crate::specs::Reading::read_value_length, crate::specs::Reading::read_value, crate::specs::Reading::read_image, crate::specs::Reading::read_form, crate::specs::Reading::read_operand, crate::specs::Reading::read_work, crate::specs::Reading::read_op, crate::specs::Reading::read_command, crate::specs::Reading::read_item))]
 impl<'a> Reader<'a> {
+    // The length of a value.
+    fn value_length(&mut self) -> Result<usize, Undecoded>
+        ensures { Reads result self.new (read_value_length self.old) }
+    {
+        let count = usize::from(self.u16()?);
+        if 1 <= count && count <= VALUE_MAX {
+            Ok(count)
+        } else {
+            Err(WireFault::Field.into())
+        }
+    }
+
     /// A value.
     pub(crate) fn value(&mut self, alloc: Global) -> Result<Value, Undecoded>
         ensures { Reads result self.new (read_value self.old) }
     {
-        let count = self.u16()?;
-        if count < 1 || 128 < count {
-            return Err(WireFault::Field.into());
-        }
-        let text = self.bytes(usize::from(count))?;
+        let count = self.value_length()?;
+        let text = self.bytes(count)?;
         match Value::read(alloc, text)? {
             Some(value) => Ok(value),
             None => Err(WireFault::Field.into()),
