@@ -1,5 +1,5 @@
 -- Replies, causes, outcomes and answers that are read are those that were written, and what was written is read again.
-use Rattle.std.proofs.Common.{◌≡◌, ℕ, ◌^◌, ◌<◌, ◌≤◌, Bool, true, false, ◌==◌, IsTrue, List, [], ◌∷◌, ◌++◌, length, Option, Some, None, refl, sym, ap, ◌∙◌, append_assoc, arith}
+use Rattle.std.proofs.Common.{[], refl, arith}
 use Rattle.cl_types.specs.declared.answers.Reply.{Reply}
 use Rattle.cl_types.specs.declared.answers.Reply.TheVariants as replies
 use Rattle.cl_types.specs.declared.answers.AbortCause.{AbortCause}
@@ -11,7 +11,7 @@ use Rattle.cl_types.specs.declared.answers.Outcome.TheVariants as outcomes
 use Rattle.cl_wire.specs.Spelling.{byte, amount_bytes, txn_bytes, value_bytes, reply_bytes, cause_bytes, outcome_bytes, answer_bytes}
 use Rattle.cl_wire.specs.Range.{IsReply, IsCause, IsOutcome, IsAnswer}
 use Rattle.cl_wire.specs.Reading.{read_reply, read_cause, read_outcome, read_answer}
-use Rattle.cl_wire.proofs.Readers.{Takes, IsSpelled, Again, takes_bind, takes_done, takes_passed, takes_nothing, takes_if, takes_last, takes_as, again_bind, again_done, again_passed, again_as, again_last}
+use Rattle.cl_wire.proofs.Readers.{Takes, IsSpelled, Again, takes_bind, takes_done, takes_nothing, takes_if, takes_last, again_bind, again_done, again_last}
 use Rattle.cl_wire.proofs.NumberLaws.{takes_byte, again_byte, tagged, takes_up_to, again_between, takes_amount, again_amount, takes_txn, again_txn}
 use Rattle.cl_wire.proofs.NameLaws.{takes_value, again_value}
 

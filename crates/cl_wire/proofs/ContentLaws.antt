@@ -1,13 +1,12 @@
 -- Bodies that are read are those that were written, and what was written is read again.
-use Rattle.std.proofs.Common.{◌≡◌, ℕ, ◌^◌, ◌<◌, ◌≤◌, Bool, true, false, ◌==◌, IsTrue, List, [], ◌∷◌, ◌++◌, length, Option, Some, None, refl, sym, ap, ◌∙◌, append_assoc, arith}
-use Rattle.std.specs.Int.{w64}
+use Rattle.std.proofs.Common.{◌≡◌, ℕ, List, refl, arith}
 use Rattle.cl_wire.specs.declared.kind.Kind.{Kind}
 use Rattle.cl_wire.specs.declared.kind.Kind.TheVariants as kinds
 use Rattle.cl_wire.specs.Message.{Content, kind_of, Bare, Command, Outcome, Ask, Answer, Prepare, Vote, Finish, Inquire, Decision, Log, LogAck, Repair, Records, Names, CopyAck}
 use Rattle.cl_wire.specs.Spelling.{byte, number_32, number_64, flag_byte, txn_bytes, op_bytes, command_bytes, outcome_bytes, answer_bytes, entry_bytes, item_bytes, list_bytes, content_bytes}
 use Rattle.cl_wire.specs.Range.{IsContent}
 use Rattle.cl_wire.specs.Reading.{read_content}
-use Rattle.cl_wire.proofs.Readers.{Takes, IsSpelled, Again, takes_bind, takes_done, takes_passed, takes_nothing, takes_if, takes_last, takes_as, again_bind, again_done, again_passed, again_as, again_last}
+use Rattle.cl_wire.proofs.Readers.{Takes, Again, takes_bind, takes_done, takes_last, again_bind, again_done, again_as, again_last}
 use Rattle.cl_wire.proofs.Nested.{nest_3, nest_4, nest_5}
 use Rattle.cl_wire.proofs.NumberLaws.{takes_up_to, again_between, takes_64, again_64, takes_number, again_number, takes_index, again_index, takes_place, again_place, takes_flag, again_flag, takes_txn, again_txn}
 use Rattle.cl_wire.proofs.NameLaws.{takes_op, again_op, takes_command, again_command}
@@ -125,10 +124,10 @@ again_content (Answer v txn place answer) fits = again_as _ _ _ _
     (again_bind _ _ (number_32 place) _ _ _ (again_place place fits.2)
     (again_last _ _ _ _ _ (again_answer answer fits.3) (again_done _)))))
     (nest_4 (byte v) (txn_bytes txn) (number_32 place) (answer_bytes answer))
-again_content (Prepare v txn) fits = 
+again_content (Prepare v txn) fits =
     (again_bind _ _ (byte v) _ _ _ (again_between 0 7 v (omega arith) fits.0)
     (again_last _ _ _ _ _ (again_txn txn fits.1) (again_done _)))
-again_content (Vote v txn) fits = 
+again_content (Vote v txn) fits =
     (again_bind _ _ (byte v) _ _ _ (again_between 0 7 v (omega arith) fits.0)
     (again_last _ _ _ _ _ (again_txn txn fits.1) (again_done _)))
 again_content (Finish v txn commit) fits = again_as _ _ _ _
@@ -136,7 +135,7 @@ again_content (Finish v txn commit) fits = again_as _ _ _ _
     (again_bind _ _ (txn_bytes txn) _ _ _ (again_txn txn fits.1)
     (again_last _ _ _ _ _ (again_flag commit) (again_done _))))
     (nest_3 (byte v) (txn_bytes txn) (byte (flag_byte commit)))
-again_content (Inquire v txn) fits = 
+again_content (Inquire v txn) fits =
     (again_bind _ _ (byte v) _ _ _ (again_between 0 7 v (omega arith) fits.0)
     (again_last _ _ _ _ _ (again_txn txn fits.1) (again_done _)))
 again_content (Decision v txn commit) fits = again_as _ _ _ _
@@ -149,10 +148,10 @@ again_content (Log v number entry) fits = again_as _ _ _ _
     (again_bind _ _ (number_64 number) _ _ _ (again_number number fits.1)
     (again_last _ _ _ _ _ (again_entry entry fits.2) (again_done _))))
     (nest_3 (byte v) (number_64 number) (entry_bytes entry))
-again_content (LogAck v number) fits = 
+again_content (LogAck v number) fits =
     (again_bind _ _ (byte v) _ _ _ (again_between 0 7 v (omega arith) fits.0)
     (again_last _ _ _ _ _ (again_number number fits.1) (again_done _)))
-again_content (Repair v node) fits = 
+again_content (Repair v node) fits =
     (again_bind _ _ (byte v) _ _ _ (again_between 0 7 v (omega arith) fits.0)
     (again_last _ _ _ _ _ (again_between 0 15 node (omega arith) fits.1) (again_done _)))
 again_content (Records v index records) fits = again_as _ _ _ _
@@ -167,6 +166,6 @@ again_content (Names v index last low txns) fits = again_as _ _ _ _
     (again_bind _ _ (number_64 low) _ _ _ (again_64 low fits.2)
     (again_last _ _ _ _ _ (again_txns txns fits.3) (again_done _))))))
     (nest_5 (byte v) (number_32 index) (byte (flag_byte last)) (number_64 low) (list_bytes txn_bytes txns))
-again_content (CopyAck v index) fits = 
+again_content (CopyAck v index) fits =
     (again_bind _ _ (byte v) _ _ _ (again_between 0 7 v (omega arith) fits.0)
     (again_last _ _ _ _ _ (again_index index fits.1) (again_done _)))

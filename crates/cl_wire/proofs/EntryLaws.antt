@@ -1,6 +1,5 @@
 -- Records of logs that are read are those that were written, and what was written is read again.
-use Rattle.std.proofs.Common.{◌≡◌, ℕ, ◌^◌, ◌<◌, ◌≤◌, Bool, true, false, ◌==◌, IsTrue, List, [], ◌∷◌, ◌++◌, length, Option, Some, None, ℤ, refl, sym, ap, ◌∙◌, append_assoc, arith}
-use Rattle.std.specs.Int.{w64}
+use Rattle.std.proofs.Common.{◌≡◌, ℕ, Bool, ◌==◌, IsTrue, List, ◌++◌, Option, ℤ}
 use Rattle.std.proofs.lemmas.Bool.{eqb-true}
 use Rattle.cl_types.specs.declared.operations.Mode.{Mode}
 use Rattle.cl_types.specs.declared.operations.TxnId.{TxnId}
@@ -8,9 +7,9 @@ use Rattle.cl_log.specs.declared.records.Form.{Form}
 use Rattle.cl_log.specs.declared.records.LogRec.{LogRec}
 use Rattle.cl_log.specs.declared.records.LogRec.TheVariants as entries
 use Rattle.cl_wire.specs.Spelling.{byte, number_64, amount_bytes, flag_byte, mode_byte, txn_bytes, name_bytes, image_bytes, form_bytes, entry_bytes}
-use Rattle.cl_wire.specs.Range.{IsTxn, IsTable, IsKey, IsNumber, IsAmount, IsImage, IsForm, IsEntry}
+use Rattle.cl_wire.specs.Range.{IsTxn, IsEntry}
 use Rattle.cl_wire.specs.Reading.{read_touch, read_set, read_add, read_comp, read_end, read_entry}
-use Rattle.cl_wire.proofs.Readers.{Takes, IsSpelled, Again, takes_bind, takes_done, takes_passed, takes_nothing, takes_if, takes_last, takes_as, again_bind, again_done, again_passed, again_as, again_last}
+use Rattle.cl_wire.proofs.Readers.{Takes, IsSpelled, Again, takes_bind, takes_nothing, takes_if, takes_last, takes_as, again_bind, again_done, again_as, again_last}
 use Rattle.cl_wire.proofs.Nested.{nest_3, nest_5, nest_6, nest_7}
 use Rattle.cl_wire.proofs.NumberLaws.{takes_byte, again_byte, tagged, takes_64, again_64, takes_number, again_number, takes_amount, again_amount, takes_flag, again_flag, takes_mode, again_mode, takes_txn, again_txn}
 use Rattle.cl_wire.proofs.NameLaws.{takes_table, again_table, takes_key, again_key, takes_image, again_image, takes_form, again_form}
@@ -25,7 +24,7 @@ unfolding read_touch entry_bytes
 takes_touch = takes_bind _ _ _ _ takes_txn (λ txn text_1 h1.
     takes_bind _ _ _ _ takes_table (λ table text_2 h2.
     takes_bind _ _ _ _ takes_key (λ key text_3 h3.
-    takes_last _ _ _ _ takes_mode (λ mode text_4 h4. 
+    takes_last _ _ _ _ takes_mode (λ mode text_4 h4.
     let fits : IsEntry (entries.Touch txn table key mode) = (h1.fits, h2.fits, h3.fits) in
     record { text = rw (h1.text, h2.text, h3.text, h4.text) (nest_5 (byte 1) (txn_bytes txn) (name_bytes table) (name_bytes key) (byte (mode_byte mode))); fits = fits }))))
 
@@ -44,7 +43,7 @@ takes_set = takes_bind _ _ _ _ takes_txn (λ txn text_1 h1.
     takes_bind _ _ _ _ takes_key (λ key text_3 h3.
     takes_bind _ _ _ _ takes_64 (λ before text_4 h4.
     takes_bind _ _ _ _ takes_image (λ old text_5 h5.
-    takes_last _ _ _ _ takes_image (λ new text_6 h6. 
+    takes_last _ _ _ _ takes_image (λ new text_6 h6.
     let fits : IsEntry (entries.Set txn table key before old new) = (h1.fits, h2.fits, h3.fits, h4.fits, h5.fits, h6.fits) in
     record { text = rw (h1.text, h2.text, h3.text, h4.text, h5.text, h6.text) (nest_7 (byte 2) (txn_bytes txn) (name_bytes table) (name_bytes key) (number_64 before) (image_bytes old) (image_bytes new)); fits = fits }))))))
 
@@ -64,7 +63,7 @@ takes_add = takes_bind _ _ _ _ takes_txn (λ txn text_1 h1.
     takes_bind _ _ _ _ takes_table (λ table text_2 h2.
     takes_bind _ _ _ _ takes_key (λ key text_3 h3.
     takes_bind _ _ _ _ takes_64 (λ before text_4 h4.
-    takes_last _ _ _ _ takes_amount (λ amount text_5 h5. 
+    takes_last _ _ _ _ takes_amount (λ amount text_5 h5.
     let fits : IsEntry (entries.Add txn table key before amount) = (h1.fits, h2.fits, h3.fits, h4.fits, h5.fits) in
     record { text = rw (h1.text, h2.text, h3.text, h4.text, h5.text) (nest_6 (byte 3) (txn_bytes txn) (name_bytes table) (name_bytes key) (number_64 before) (amount_bytes amount)); fits = fits })))))
 
@@ -84,7 +83,7 @@ takes_comp = takes_bind _ _ _ _ takes_txn (λ txn text_1 h1.
     takes_bind _ _ _ _ takes_key (λ key text_3 h3.
     takes_bind _ _ _ _ takes_64 (λ before text_4 h4.
     takes_bind _ _ _ _ takes_number (λ undone text_5 h5.
-    takes_last _ _ _ _ takes_form (λ form text_6 h6. 
+    takes_last _ _ _ _ takes_form (λ form text_6 h6.
     let fits : IsEntry (entries.Comp txn table key before undone form) = (h1.fits, h2.fits, h3.fits, h4.fits, h5.fits, h6.fits) in
     record { text = rw (h1.text, h2.text, h3.text, h4.text, h5.text, h6.text) (nest_7 (byte 4) (txn_bytes txn) (name_bytes table) (name_bytes key) (number_64 before) (number_64 undone) (form_bytes form)); fits = fits }))))))
 
@@ -101,7 +100,7 @@ again_comp txn table key before undone form fits = again_as _ _ _ _ (again_bind 
 takes_end : Takes read_end (IsBehind 6)
 unfolding read_end entry_bytes
 takes_end = takes_bind _ _ _ _ takes_txn (λ txn text_1 h1.
-    takes_last _ _ _ _ takes_flag (λ commit text_2 h2. 
+    takes_last _ _ _ _ takes_flag (λ commit text_2 h2.
     let fits : IsEntry (entries.End txn commit) = h1.fits in
     record { text = rw (h1.text, h2.text) (nest_3 (byte 6) (txn_bytes txn) (byte (flag_byte commit))); fits = fits }))
 

@@ -7,4 +7,5 @@ pub mod Members
 pub mod NameLaws
 pub mod Nested
 pub mod NumberLaws
+pub mod PacketLaws
 pub mod Readers

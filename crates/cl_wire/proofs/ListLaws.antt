@@ -1,5 +1,5 @@
 -- Lists and records of stores that are read are those that were written, and what was written is read again.
-use Rattle.std.proofs.Common.{◌≡◌, ℕ, zero, suc, ◌^◌, ◌<◌, ◌≤◌, Bool, true, false, ◌==◌, IsTrue, List, [], ◌∷◌, ◌++◌, length, All, Option, Some, None, refl, sym, ap, ◌∙◌, append_assoc, arith}
+use Rattle.std.proofs.Common.{◌≡◌, ℕ, zero, suc, List, [], ◌∷◌, length, All, refl, sym, ap, arith}
 use Rattle.std.specs.List.{flat_map, AllByRecursion}
 use Rattle.std.proofs.lemmas.List.Elements.{All-nil, All-cons, recursion_from_All}
 use Rattle.std.proofs.lemmas.List.Concat.{flat_map-cons}
@@ -8,7 +8,7 @@ use Rattle.cl_store.specs.declared.item.Item.{Item}
 use Rattle.cl_wire.specs.Spelling.{byte, number_64, txn_bytes, name_bytes, image_bytes, item_bytes, list_bytes}
 use Rattle.cl_wire.specs.Range.{IsTxn, IsItem, AreFew}
 use Rattle.cl_wire.specs.Reading.{Reader, read_txn, read_item, read_members, read_list}
-use Rattle.cl_wire.proofs.Readers.{Takes, IsSpelled, Again, takes_bind, takes_done, takes_passed, takes_nothing, takes_if, takes_last, takes_as, again_bind, again_done, again_passed, again_as, again_last}
+use Rattle.cl_wire.proofs.Readers.{Takes, IsSpelled, Again, takes_bind, takes_done, takes_last, takes_as, again_bind, again_done, again_as, again_last}
 use Rattle.cl_wire.proofs.Nested.{nest_4}
 use Rattle.cl_wire.proofs.NumberLaws.{takes_up_to, again_between, takes_number, again_number, takes_txn, again_txn}
 use Rattle.cl_wire.proofs.NameLaws.{takes_table, again_table, takes_key, again_key, takes_image, again_image}

@@ -1,8 +1,8 @@
 -- Names, values and operations that are read are those that were written, and what was written is read again.
-use Rattle.std.proofs.Common.{◌≡◌, ℕ, ◌^◌, ◌<◌, ◌≤◌, Bool, true, false, ◌==◌, List, [], ◌∷◌, ◌++◌, length, Option, Some, None, refl, sym, ap, ◌∙◌, append_assoc, arith}
+use Rattle.std.proofs.Common.{◌≡◌, ℕ, ◌^◌, ◌<◌, ◌≤◌, Bool, true, false, List, [], ◌++◌, length, Option, Some, None, refl, sym, arith}
 use Rattle.std.specs.Int.{w16, to_be_bytes}
-use Rattle.std.proofs.lemmas.Bool.{eqb-true, and_from, le-leb}
-use Rattle.cl_types.specs.Names.{is_between, is_table_name, is_key, is_value}
+use Rattle.std.proofs.lemmas.Bool.{eqb-true}
+use Rattle.cl_types.specs.Names.{is_between}
 use Rattle.cl_types.specs.declared.operations.Op.{Op}
 use Rattle.cl_types.specs.declared.operations.Op.TheVariants.{Get, Put, Del, Add}
 use Rattle.cl_types.specs.declared.operations.Command.{Command as ClientCommand}
@@ -10,12 +10,12 @@ use Rattle.cl_types.specs.declared.operations.Command.TheVariants.{Begin, Work, 
 use Rattle.cl_log.specs.declared.records.Form.{Form}
 use Rattle.cl_log.specs.declared.records.Form.TheVariants.{Image, Amount}
 use Rattle.cl_wire.specs.Spelling.{byte, amount_bytes, name_bytes, value_bytes, image_bytes, form_bytes, op_byte, operand_bytes, op_bytes, command_bytes}
-use Rattle.cl_wire.specs.Range.{IsTable, IsKey, IsValue, IsAmount, IsImage, IsForm, IsOp, IsCommand}
-use Rattle.cl_wire.specs.Reading.{◌>>=◌, done, read_bytes, read_text, read_table, read_key, read_value_length, read_value, read_image, read_form, read_operand, read_work, read_op, read_command}
-use Rattle.cl_wire.proofs.Lengths.{between_high, between_low, length-table, length-key, length-value, value_is_between}
+use Rattle.cl_wire.specs.Range.{IsTable, IsKey, IsValue, IsImage, IsForm, IsOp, IsCommand}
+use Rattle.cl_wire.specs.Reading.{◌>>=◌, done, read_text, read_table, read_key, read_value_length, read_value, read_image, read_form, read_operand, read_work, read_op, read_command}
+use Rattle.cl_wire.proofs.Lengths.{length-table, length-key, length-value, value_is_between}
 use Rattle.cl_wire.proofs.Readers.{Takes, IsSpelled, Again, takes_bind, takes_done, takes_passed, takes_nothing, takes_if, takes_last, takes_as, again_bind, again_done, again_passed, again_as, again_last}
 use Rattle.cl_wire.proofs.Nested.{nest_4}
-use Rattle.cl_wire.proofs.NumberLaws.{takes_byte, again_byte, tagged, takes_between, again_between, IsCut, takes_bytes, again_bytes, wide_16, takes_wide, again_wide, takes_amount, again_amount, flag_bytes, takes_flag, again_flag}
+use Rattle.cl_wire.proofs.NumberLaws.{takes_byte, again_byte, tagged, takes_between, again_between, takes_bytes, again_bytes, wide_16, takes_wide, again_wide, takes_amount, again_amount, flag_bytes, takes_flag, again_flag}
 
 -- ---- names
 
@@ -195,8 +195,8 @@ takes_command = takes_bind _ _ _ _ takes_byte (λ b text h.
     (λ _. takes_if _ _ _ _ (λ is_5. takes_done _ _ (record { text = tagged text b 5 [] [] h.text is_5 refl; fits = tt }))
     (λ _. takes_if _ _ _ _ (λ is_6. takes_done _ _ (record { text = tagged text b 6 [] [] h.text is_6 refl; fits = tt }))
     (λ _. takes_if (is_between 1 4 b) (read_work b >>= λ work. done (Work work.0 work.1 work.2)) _ _ (λ _. takes_last _ (λ work. Work work.0 work.1 work.2) _ _ (takes_work b) (λ work text_2 h2.
-        let fits : IsCommand (Work work.0 work.1 work.2) = (h2.table, h2.key, h2.op) in
-        record { text = op_text text text_2 b work h.text h2; fits = fits }))
+    let fits : IsCommand (Work work.0 work.1 work.2) = (h2.table, h2.key, h2.op) in
+    record { text = op_text text text_2 b work h.text h2; fits = fits }))
     (λ _. takes_nothing _)))))
 
 -- a command of the byte of an operation goes on with its table

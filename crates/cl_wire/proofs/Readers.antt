@@ -1,8 +1,6 @@
 -- What readers that are composed take from the left, and what they read again.
-use Rattle.std.proofs.Common.{◌≡◌, ℕ, zero, suc, ◌+◌, ◌<◌, Bool, true, false, cond, List, [], ◌∷◌, ◌++◌, get_or, Result, Ok, Err, refl, sym, ap, subst, ◌∙◌, append_assoc, arith}
+use Rattle.std.proofs.Common.{◌≡◌, ℕ, ◌<◌, Bool, true, false, cond, List, [], ◌++◌, get_or, Ok, Err, refl, sym, ap, subst, ◌∙◌, append_assoc}
 use Rattle.std.proofs.lemmas.List.{append-nil}
-use Rattle.cl_wire.specs.declared.undecoded.WireFault.{WireFault}
-use Rattle.cl_wire.specs.declared.undecoded.WireFault.TheVariants as faults
 use Rattle.cl_wire.specs.Reading.{Read, Reader, onward, ◌>>=◌, done, checked, out_of_range}
 
 abbrev pub IsBytes : List ℕ → Type 0
@@ -35,15 +33,15 @@ onward_ok (Err fault) next y e = absurd cc
 pub takes_bind : {A B : Type 0} (reader : Reader A) (next : A → Reader B) (S : A → List ℕ → Type 0) (R : B → List ℕ → Type 0) → Takes reader S → ((found : A) (text : List ℕ) → S found text → Takes (next found) (λ made more. R made (text ++ more))) → Takes (reader >>= next) R
 takes_bind reader next S R first second = record {
   run = λ bytes found rest fits e.
-    let step = onward_ok (reader bytes) next (found, rest) e in
-    let a = first.run bytes step.0.0 step.0.1 fits step.1 in
-    let b = (second step.0.0 a.text a.holds).run step.0.1 found rest a.left step.2 in
-    record {
-      text = a.text ++ b.text;
-      parts = a.parts ∙ ap (λ (t : List ℕ). a.text ++ t) b.parts ∙ sym (append_assoc a.text b.text rest);
-      left = b.left;
-      holds = b.holds;
-    };
+      let step = onward_ok (reader bytes) next (found, rest) e in
+      let a = first.run bytes step.0.0 step.0.1 fits step.1 in
+      let b = (second step.0.0 a.text a.holds).run step.0.1 found rest a.left step.2 in
+      record {
+        text = a.text ++ b.text;
+        parts = a.parts ∙ ap (λ (t : List ℕ). a.text ++ t) b.parts ∙ sym (append_assoc a.text b.text rest);
+        left = b.left;
+        holds = b.holds;
+      };
 }
 
 -- what two readings that are one have found and left
@@ -88,8 +86,8 @@ takes_passed reader test S R first second =
 pub takes_as : {A : Type 0} (reader : Reader A) (S R : A → List ℕ → Type 0) → Takes reader S → ((found : A) (text : List ℕ) → S found text → R found text) → Takes reader R
 takes_as reader S R takes follows = record {
   run = λ bytes found rest fits e.
-    let a = takes.run bytes found rest fits e in
-    record { text = a.text; parts = a.parts; left = a.left; holds = follows found a.text a.holds };
+      let a = takes.run bytes found rest fits e in
+      record { text = a.text; parts = a.parts; left = a.left; holds = follows found a.text a.holds };
 }
 
 pub again_bind : {A B : Type 0} (reader : Reader A) (next : A → Reader B) (text more : List ℕ) (found : A) (made : B) → Again reader text found → Again (next found) more made → Again (reader >>= next) (text ++ more) made

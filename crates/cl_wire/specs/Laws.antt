@@ -1,5 +1,5 @@
 -- What holds of every spelling.
-use Rattle.std.specs.Prelude.{◌≡◌, ℕ, List, [], ◌++◌, Ok}
+use Rattle.std.specs.Prelude.{◌≡◌, ℕ, ◌^◌, ◌<◌, List, [], ◌++◌, slice_index, Ok}
 use Rattle.cl_wire.specs.Message.{Message}
 use Rattle.cl_wire.specs.Spelling.{spelling}
 use Rattle.cl_wire.specs.Range.{IsInRange}
@@ -10,9 +10,17 @@ pub record Spells (bytes : List ℕ) (m : Message) : Type 0 where
   pub text : bytes ≡ spelling m
   pub range : IsInRange m
 
+-- each is below 256
+abbrev pub AreBytes : List ℕ → Type 0
+AreBytes bytes = (place : ℕ) → slice_index bytes place < 2 ^ 8
+
 -- each message in range is read back from its spelling
 abbrev pub SpelledIsRead : Type 0
 SpelledIsRead = (m : Message) → IsInRange m → read_packet (spelling m) ≡ Ok m
+
+-- bytes from which a message is read are its spelling, and it is in range
+abbrev pub ReadIsSpelled : Type 0
+ReadIsSpelled = (bytes : List ℕ) (m : Message) → AreBytes bytes → read_packet bytes ≡ Ok m → Spells bytes m
 
 -- a list of bytes is the spelling of at most one message
 abbrev pub SpellsAtMostOne : Type 0

@@ -1,7 +1,6 @@
 //! From bytes to packets.
-ghost use Rattle.std.specs.Prelude.{◌≡◌, List, Ok, IfOk};
+ghost use Rattle.std.specs.Prelude.{◌≡◌, Ok, IfOk};
 ghost use Rattle.cl_wire.specs.Message.{Message, message_of};
-ghost use Rattle.cl_wire.specs.Range.{IsInRange};
 ghost use Rattle.cl_wire.specs.Laws.{Spells};
 ghost use Rattle.cl_wire.specs.Reading as reading;
 ghost use Rattle.cl_wire.specs.Reading.{Gives, Reads, Decodes, read_kind, read_seq, read_header, read_message, read_packet};
@@ -103,4 +102,17 @@ fn read_whole(alloc: Global, bytes: &[u8]) -> Result<Packet, Undecoded>
     } else {
         Err(WireFault::Rest.into())
     }
+}
+
+/// The packet that the bytes are the spelling of, or the first field from the left that cannot be
+/// read. It takes memory for values and lists alone, and time in proportion to the bytes.
+pub fn decode(alloc: Global, bytes: &[u8]) -> Result<Packet, Undecoded>
+    // What is read is spelled so.
+    ensures found { IfOk result (λ packet. Spells bytes.now (message_of packet)) }
+    // What is spelled so is read, unless memory runs out.
+    ensures only { (m : Message) → Spells bytes.now m → Decodes result (Ok m) }
+    // Which fault it is.
+    ensures exact { Decodes result (read_packet bytes.now) }
+{
+    read_whole(alloc, bytes)
 }

@@ -8,8 +8,7 @@ use crate::undecoded::Undecoded;
 use cl_log::Form;
 use cl_store::Item;
 use cl_types::{
-    AbortCause, Answer, Command, Key, Mode, Op, Outcome, Reply, TableName, TxnId, VALUE_MAX,
-    Value,
+    AbortCause, Answer, Command, Key, Mode, Op, Outcome, Reply, TableName, TxnId, VALUE_MAX, Value,
 };
 use std::alloc::Global;
 

@@ -7,6 +7,7 @@ mod encoding;
 mod entries;
 mod fields;
 mod kind;
+mod laws;
 mod lists;
 mod packet;
 mod reader;
@@ -14,6 +15,8 @@ mod undecoded;
 mod writer;
 mod writing;
 
+pub use decoding::decode;
 pub use encoding::{PACKET_MAX, encode};
+pub use laws::{bytes_spell_at_most_one, no_spelling_begins_another, spelling_and_reading_agree};
 pub use packet::{Body, Packet};
 pub use undecoded::{Undecoded, WireFault};
