@@ -11,6 +11,8 @@ mod laws;
 mod lists;
 mod packet;
 mod reader;
+#[cfg(test)]
+mod tests;
 mod undecoded;
 mod writer;
 mod writing;
