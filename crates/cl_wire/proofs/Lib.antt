@@ -9,3 +9,4 @@ pub mod Nested
 pub mod NumberLaws
 pub mod PacketLaws
 pub mod Readers
+pub mod SpellingLengths

@@ -1,5 +1,5 @@
 -- What holds of every spelling.
-use Rattle.std.specs.Prelude.{◌≡◌, ℕ, ◌^◌, ◌<◌, List, [], ◌++◌, slice_index, Ok}
+use Rattle.std.specs.Prelude.{◌≡◌, ℕ, ◌^◌, ◌<◌, ◌≤◌, List, [], ◌++◌, length, slice_index, Ok}
 use Rattle.cl_wire.specs.Message.{Message}
 use Rattle.cl_wire.specs.Spelling.{spelling}
 use Rattle.cl_wire.specs.Range.{IsInRange}
@@ -29,3 +29,7 @@ SpellsAtMostOne = (bytes : List ℕ) (m n : Message) → Spells bytes m → Spel
 -- no spelling begins another spelling
 abbrev pub NoneBeginsAnother : Type 0
 NoneBeginsAnother = (m n : Message) (rest : List ℕ) → IsInRange m → IsInRange n → spelling m ++ rest ≡ spelling n → rest ≡ []
+
+-- no spelling is longer: a header of 24 bytes, 6 before a list, and four records of 181
+abbrev pub NoneIsLonger : ℕ → Type 0
+NoneIsLonger most = (m : Message) → IsInRange m → length (spelling m) ≤ most

@@ -19,6 +19,9 @@ mod writing;
 
 pub use decoding::decode;
 pub use encoding::{PACKET_MAX, encode};
-pub use laws::{bytes_spell_at_most_one, no_spelling_begins_another, spelling_and_reading_agree};
+pub use laws::{
+    bytes_spell_at_most_one, no_spelling_begins_another, no_spelling_is_longer,
+    spelling_and_reading_agree,
+};
 pub use packet::{Body, Packet};
 pub use undecoded::{Undecoded, WireFault};
