@@ -103,6 +103,15 @@ read_mode = do
   b ← read_byte
   if b == 1 then done Shared else (if b == 2 then done Exclusive else out_of_range)
 
+abbrev pub read_actor : Reader ℕ
+read_actor = read_between 0 16
+
+abbrev pub read_node : Reader ℕ
+read_node = read_between 0 15
+
+abbrev pub read_virtual_node : Reader ℕ
+read_virtual_node = read_between 0 7
+
 unfoldable pub read_place : Reader ℕ
 read_place = do
   place ← read_number w32
@@ -197,7 +206,7 @@ unfoldable pub read_cause : Reader AbortCause
 read_cause = do
   b ← read_byte
   if b == 0 then (read_txn >>= λ holder. done (causes.Conflict holder))
-      else (if b == 1 then (read_between 0 15 >>= λ node. done (causes.Node node))
+      else (if b == 1 then (read_node >>= λ node. done (causes.Node node))
       else (if b == 2 then done causes.Client
       else (if b == 3 then done causes.Memory else out_of_range)))
 
@@ -312,7 +321,7 @@ read_kind = do
 unfoldable pub read_content : Kind → Reader Content
 read_content kinds.Bare = done Bare
 read_content kinds.Command = do
-  v ← read_between 0 7
+  v ← read_virtual_node
   txn ← read_txn
   place ← read_place
   asked ← read_command
@@ -323,66 +332,66 @@ read_content kinds.Outcome = do
   outcome ← read_outcome
   done (Outcome txn place outcome)
 read_content kinds.Ask = do
-  v ← read_between 0 7
+  v ← read_virtual_node
   txn ← read_txn
   place ← read_place
   work ← read_op
   done (Ask v txn place work.0 work.1 work.2)
 read_content kinds.Answer = do
-  v ← read_between 0 7
+  v ← read_virtual_node
   txn ← read_txn
   place ← read_place
   answer ← read_answer
   done (Answer v txn place answer)
 read_content kinds.Prepare = do
-  v ← read_between 0 7
+  v ← read_virtual_node
   txn ← read_txn
   done (Prepare v txn)
 read_content kinds.Vote = do
-  v ← read_between 0 7
+  v ← read_virtual_node
   txn ← read_txn
   done (Vote v txn)
 read_content kinds.Finish = do
-  v ← read_between 0 7
+  v ← read_virtual_node
   txn ← read_txn
   commit ← read_flag
   done (Finish v txn commit)
 read_content kinds.Inquire = do
-  v ← read_between 0 7
+  v ← read_virtual_node
   txn ← read_txn
   done (Inquire v txn)
 read_content kinds.Decision = do
-  v ← read_between 0 7
+  v ← read_virtual_node
   txn ← read_txn
   commit ← read_flag
   done (Decision v txn commit)
 read_content kinds.Log = do
-  v ← read_between 0 7
+  v ← read_virtual_node
   number ← read_positive w64
   entry ← read_entry
   done (Log v number entry)
 read_content kinds.LogAck = do
-  v ← read_between 0 7
+  v ← read_virtual_node
   number ← read_positive w64
   done (LogAck v number)
 read_content kinds.Repair = do
-  v ← read_between 0 7
-  node ← read_between 0 15
+  v ← read_virtual_node
+  node ← read_node
   done (Repair v node)
 read_content kinds.Records = do
-  v ← read_between 0 7
+  v ← read_virtual_node
   index ← read_positive w32
   records ← read_list read_item
   done (Records v index records)
 read_content kinds.Names = do
-  v ← read_between 0 7
+  v ← read_virtual_node
   index ← read_positive w32
   last ← read_flag
   low ← read_number w64
   txns ← read_list read_txn
   done (Names v index last low txns)
 read_content kinds.CopyAck = do
-  v ← read_between 0 7
+  v ← read_virtual_node
   index ← read_positive w32
   done (CopyAck v index)
 
@@ -403,8 +412,8 @@ unfoldable pub read_header : Reader Header
 read_header = do
   _ ← read_version
   kind ← read_kind
-  from ← read_between 0 16
-  to ← read_between 0 16
+  from ← read_actor
+  to ← read_actor
   set ← read_number w32
   seq ← read_seq kind
   ack ← read_number w64

@@ -3,15 +3,13 @@ ghost use Rattle.std.specs.Prelude.{◌≡◌, Ok, IfOk};
 ghost use Rattle.cl_wire.specs.Message.{Message, message_of};
 ghost use Rattle.cl_wire.specs.Laws.{Spells};
 ghost use Rattle.cl_wire.specs.Reading as reading;
-ghost use Rattle.cl_wire.specs.Reading.{Gives, Reads, Decodes, read_kind, read_seq, read_header, read_message, read_packet};
+ghost use Rattle.cl_wire.specs.Reading.{Gives, Reads, Decodes, read_actor, read_kind, read_seq, read_header, read_message, read_packet};
 
 use crate::kind::Kind;
+use crate::limits::{ACTOR_MAX, VERSION};
 use crate::reader::Reader;
 use crate::{Packet, Undecoded, WireFault};
 use std::alloc::Global;
-
-/// The version of the format.
-const VERSION: u8 = 1;
 
 /// The fields before the body.
 #[derive(Clone, Copy)]
@@ -36,6 +34,12 @@ fn is_seq(kind: Kind, seq: u64) -> bool
 
 #[tactic(auto, unfolding(crate::specs::Reading::read_kind, crate::specs::Reading::read_seq, crate::specs::Reading::read_header))]
 impl<'a> Reader<'a> {
+    fn actor(&mut self) -> Result<u32, Undecoded>
+        ensures { Reads result self.new (read_actor self.old) }
+    {
+        self.between(0, ACTOR_MAX)
+    }
+
     fn kind(&mut self) -> Result<Kind, Undecoded>
         ensures { Reads result self.new (read_kind self.old) }
     {
@@ -63,8 +67,8 @@ impl<'a> Reader<'a> {
         let kind = self.kind()?;
         Ok(Header {
             kind,
-            from: self.between(0, 16)?,
-            to: self.between(0, 16)?,
+            from: self.actor()?,
+            to: self.actor()?,
             set: self.u32()?,
             seq: self.seq(kind)?,
             ack: self.u64()?,

@@ -6,18 +6,13 @@ ghost use Rattle.cl_wire.specs.Spelling.{byte, txn_bytes, item_bytes, list_bytes
 ghost use Rattle.cl_wire.specs.Range.{IsVirtualNode, IsTxn, IsItem, IsContent, IsInRange, AreFew};
 
 use crate::kind::Kind;
+use crate::limits::{PACKET_MAX, VERSION};
 use crate::writer::Writer;
 use crate::{Body, Packet};
 use cl_log::TxnList;
 use cl_store::ItemList;
 use cl_types::{NoMemory, TxnId};
 use std::alloc::Global;
-
-/// The version of the format.
-const VERSION: u8 = 1;
-
-/// The most bytes of a packet: a header of 24, 6 before a list, and four records of a store.
-pub const PACKET_MAX: usize = 754;
 
 impl Body {
     // The kind of the body.

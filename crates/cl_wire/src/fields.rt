@@ -1,8 +1,9 @@
 //! Reading the fields of packets.
 ghost use Rattle.std.specs.Prelude.{◌≡◌};
-ghost use Rattle.cl_wire.specs.Reading.{Gives, Reads, read_place, read_mode, read_txn, read_text, read_table, read_key, read_value_length, read_value, read_image, read_form, read_operand, read_work, read_op, read_command, read_reply, read_cause, read_outcome, read_answer, read_item};
+ghost use Rattle.cl_wire.specs.Reading.{Gives, Reads, read_node, read_place, read_mode, read_txn, read_text, read_table, read_key, read_value_length, read_value, read_image, read_form, read_operand, read_work, read_op, read_command, read_reply, read_cause, read_outcome, read_answer, read_item};
 
 use crate::WireFault;
+use crate::limits::{NODE_MAX, PLACE_MAX, SESSION_MAX};
 use crate::reader::Reader;
 use crate::undecoded::Undecoded;
 use cl_log::Form;
@@ -11,9 +12,6 @@ use cl_types::{
     AbortCause, Answer, Command, Key, Mode, Op, Outcome, Reply, TableName, TxnId, VALUE_MAX, Value,
 };
 use std::alloc::Global;
-
-/// The last place of a command in its transaction.
-const PLACE_MAX: u32 = 65;
 
 #[tactic(auto, unfolding(crate::specs::Reading::read_place, crate::specs::Reading::read_mode, crate::specs::Reading::read_txn, crate::specs::Reading::read_text, crate::specs::Reading::read_table, crate::specs::Reading::read_key))]
 impl<'a> Reader<'a> {
@@ -27,6 +25,13 @@ impl<'a> Reader<'a> {
         } else {
             Err(WireFault::Field.into())
         }
+    }
+
+    /// A node.
+    pub(crate) fn node(&mut self) -> Result<u32, Undecoded>
+        ensures { Reads result self.new (read_node self.old) }
+    {
+        self.between(0, NODE_MAX)
     }
 
     /// The mode of a lock.
@@ -44,7 +49,7 @@ impl<'a> Reader<'a> {
     pub(crate) fn txn(&mut self) -> Result<TxnId, Undecoded>
         ensures { Reads result self.new (read_txn self.old) }
     {
-        let session = self.between(1, 64)?;
+        let session = self.between(1, SESSION_MAX)?;
         let number = self.number()?;
         Ok(TxnId { session, number })
     }
@@ -211,7 +216,7 @@ impl<'a> Reader<'a> {
     {
         match self.byte()? {
             0 => Ok(AbortCause::Conflict(self.txn()?)),
-            1 => Ok(AbortCause::Node(self.between(0, 15)?)),
+            1 => Ok(AbortCause::Node(self.node()?)),
             2 => Ok(AbortCause::Client),
             3 => Ok(AbortCause::Memory),
             _ => Err(WireFault::Field.into()),

@@ -1,7 +1,7 @@
 //! What holds of every spelling. Each function does nothing: its contract is a law of the definitions.
 ghost use Rattle.cl_wire.specs.Laws.{SpelledIsRead, ReadIsSpelled, SpellsAtMostOne, NoneBeginsAnother, NoneIsLonger};
 
-use crate::PACKET_MAX;
+use crate::limits::PACKET_MAX;
 
 /// What is spelled is read, and what is read is spelled so: the two sides of the grammar agree.
 pub fn spelling_and_reading_agree()

@@ -8,6 +8,7 @@ mod entries;
 mod fields;
 mod kind;
 mod laws;
+mod limits;
 mod lists;
 mod packet;
 mod reader;
@@ -18,10 +19,11 @@ mod writer;
 mod writing;
 
 pub use decoding::decode;
-pub use encoding::{PACKET_MAX, encode};
+pub use encoding::encode;
 pub use laws::{
     bytes_spell_at_most_one, no_spelling_begins_another, no_spelling_is_longer,
     spelling_and_reading_agree,
 };
+pub use limits::PACKET_MAX;
 pub use packet::{Body, Packet};
 pub use undecoded::{Undecoded, WireFault};

@@ -1,7 +1,8 @@
 //! Reading the lists of packets.
 ghost use Rattle.cl_types.specs.GrowingList.{items};
-ghost use Rattle.cl_wire.specs.Reading.{Gives, read_list, read_members, read_item, read_txn};
+ghost use Rattle.cl_wire.specs.Reading.{Gives, Reads, read_between, read_list, read_members, read_item, read_txn};
 
+use crate::limits::LIST_MAX;
 use crate::reader::Reader;
 use crate::undecoded::Undecoded;
 use cl_log::TxnList;
@@ -9,6 +10,13 @@ use cl_store::ItemList;
 use std::alloc::Global;
 
 impl<'a> Reader<'a> {
+    // How many members a list has.
+    fn count(&mut self) -> Result<u32, Undecoded>
+        ensures { Reads result self.new (read_between 0 4 self.old) }
+    {
+        self.between(0, LIST_MAX)
+    }
+
     // So many records of a store.
     fn item_members(&mut self, alloc: Global, count: u32) -> Result<ItemList, Undecoded>
         ensures { Gives items result self.new (read_members read_item count self.old) }
@@ -38,7 +46,7 @@ impl<'a> Reader<'a> {
     pub(crate) fn items(&mut self, alloc: Global) -> Result<ItemList, Undecoded>
         ensures { Gives items result self.new (read_list read_item self.old) }
     {
-        let count = self.between(0, 4)?;
+        let count = self.count()?;
         self.item_members(alloc, count)
     }
 
@@ -47,7 +55,7 @@ impl<'a> Reader<'a> {
     pub(crate) fn txns(&mut self, alloc: Global) -> Result<TxnList, Undecoded>
         ensures { Gives items result self.new (read_list read_txn self.old) }
     {
-        let count = self.between(0, 4)?;
+        let count = self.count()?;
         self.txn_members(alloc, count)
     }
 }
