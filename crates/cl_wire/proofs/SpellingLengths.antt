@@ -1,5 +1,5 @@
 -- How long spellings are at most.
-use Rattle.std.proofs.Common.{◌≡◌, ℕ, zero, suc, ◌+◌, ◌*◌, ◌^◌, ◌<◌, ◌≤◌, List, [], ◌∷◌, ◌++◌, length, All, Option, Some, None, ℤ, refl, arith}
+use Rattle.std.proofs.Common.{◌≡◌, ℕ, ◌*◌, ◌≤◌, List, [], ◌∷◌, ◌++◌, length, Option, Some, None, ℤ, refl, arith}
 use Rattle.std.specs.List.{flat_map, AllByRecursion}
 use Rattle.std.proofs.lemmas.List.{length-append}
 use Rattle.std.proofs.lemmas.List.Elements.{recursion_from_All}
@@ -22,9 +22,9 @@ use Rattle.cl_log.specs.declared.records.Form.TheVariants.{Image, Amount}
 use Rattle.cl_log.specs.declared.records.LogRec.{LogRec}
 use Rattle.cl_log.specs.declared.records.LogRec.TheVariants as entries
 use Rattle.cl_store.specs.declared.item.Item.{Item}
-use Rattle.cl_wire.specs.Message.{Content, Message, kind_of, Bare, Command, Outcome, Ask, Answer, Prepare, Vote, Finish, Inquire, Decision, Log, LogAck, Repair, Records, Names, CopyAck}
-use Rattle.cl_wire.specs.Spelling.{byte, number_32, number_64, amount_bytes, flag_byte, mode_byte, txn_bytes, name_bytes, value_bytes, image_bytes, form_bytes, operand_bytes, op_byte, op_bytes, command_bytes, reply_bytes, cause_bytes, outcome_bytes, answer_bytes, entry_bytes, item_bytes, list_bytes, kind_byte, header_bytes, content_bytes, spelling}
-use Rattle.cl_wire.specs.Range.{IsTxn, IsTable, IsKey, IsValue, IsImage, IsForm, IsOp, IsCommand, IsReply, IsCause, IsOutcome, IsAnswer, IsEntry, IsItem, AreFew, IsContent, IsInRange}
+use Rattle.cl_wire.specs.Message.{Content, Message, Bare, Command, Outcome, Ask, Answer, Prepare, Vote, Finish, Inquire, Decision, Log, LogAck, Repair, Records, Names, CopyAck}
+use Rattle.cl_wire.specs.Spelling.{byte, number_32, number_64, amount_bytes, flag_byte, mode_byte, txn_bytes, name_bytes, value_bytes, image_bytes, form_bytes, operand_bytes, op_byte, op_bytes, command_bytes, reply_bytes, cause_bytes, outcome_bytes, answer_bytes, entry_bytes, item_bytes, list_bytes, header_bytes, content_bytes, spelling}
+use Rattle.cl_wire.specs.Range.{IsTxn, IsTable, IsKey, IsValue, IsImage, IsForm, IsOp, IsCommand, IsReply, IsOutcome, IsAnswer, IsEntry, IsItem, AreFew, IsContent, IsInRange}
 use Rattle.cl_wire.proofs.Lengths.{length-table, length-key, length-value}
 
 length-number_32 : (n : ℕ) → length (number_32 n) ≡ 4
