@@ -3,7 +3,7 @@ use Rattle.std.specs.Prelude.{◌≡◌, ℕ, ◌^◌, ◌<◌, ◌≤◌, List,
 use Rattle.cl_wire.specs.Message.{Message}
 use Rattle.cl_wire.specs.Spelling.{spelling}
 use Rattle.cl_wire.specs.Range.{IsInRange}
-use Rattle.cl_wire.specs.Reading.{read_packet}
+use Rattle.cl_wire.specs.PacketReading.{read_packet}
 
 -- the bytes are the spelling of the message, each field of which is in its range
 pub record Spells (bytes : List ℕ) (m : Message) : Type 0 where

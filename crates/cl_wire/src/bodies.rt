@@ -1,6 +1,7 @@
 //! Reading the bodies of packets, kind by kind.
 ghost use Rattle.cl_wire.specs.Message.{content_of};
-ghost use Rattle.cl_wire.specs.Reading.{Gives, Reads, read_virtual_node, read_content};
+ghost use Rattle.cl_wire.specs.Reading.{Gives, Reads, read_virtual_node};
+ghost use Rattle.cl_wire.specs.PacketReading.{read_content};
 ghost use Rattle.cl_wire.specs.declared.kind.Kind.TheVariants as kinds;
 
 use crate::Body;
@@ -10,7 +11,7 @@ use crate::reader::Reader;
 use crate::undecoded::Undecoded;
 use std::alloc::Global;
 
-#[tactic(auto, unfolding(crate::specs::Reading::read_content))]
+#[tactic(auto, unfolding(crate::specs::PacketReading::read_content))]
 impl<'a> Reader<'a> {
     fn virtual_node(&mut self) -> Result<u32, Undecoded>
         ensures { Reads result self.new (read_virtual_node self.old) }

@@ -2,8 +2,9 @@
 ghost use Rattle.std.specs.Prelude.{◌≡◌, Ok, IfOk};
 ghost use Rattle.cl_wire.specs.Message.{Message, message_of};
 ghost use Rattle.cl_wire.specs.Laws.{Spells};
-ghost use Rattle.cl_wire.specs.Reading as reading;
-ghost use Rattle.cl_wire.specs.Reading.{Gives, Reads, Decodes, read_actor, read_kind, read_seq, read_header, read_message, read_packet};
+ghost use Rattle.cl_wire.specs.PacketReading as reading;
+ghost use Rattle.cl_wire.specs.Reading.{Gives, Reads, read_actor};
+ghost use Rattle.cl_wire.specs.PacketReading.{Decodes, read_kind, read_seq, read_header, read_message, read_packet};
 
 use crate::kind::Kind;
 use crate::limits::{ACTOR_MAX, VERSION};
@@ -32,7 +33,7 @@ fn is_seq(kind: Kind, seq: u64) -> bool
     }
 }
 
-#[tactic(auto, unfolding(crate::specs::Reading::read_kind, crate::specs::Reading::read_seq, crate::specs::Reading::read_header))]
+#[tactic(auto, unfolding(crate::specs::PacketReading::read_kind, crate::specs::PacketReading::read_seq, crate::specs::PacketReading::read_header))]
 impl<'a> Reader<'a> {
     fn actor(&mut self) -> Result<u32, Undecoded>
         ensures { Reads result self.new (read_actor self.old) }
@@ -76,7 +77,7 @@ impl<'a> Reader<'a> {
     }
 }
 
-#[tactic(auto, unfolding(crate::specs::Reading::read_message))]
+#[tactic(auto, unfolding(crate::specs::PacketReading::read_message))]
 impl<'a> Reader<'a> {
     fn packet(&mut self, alloc: Global) -> Result<Packet, Undecoded>
         ensures { Gives message_of result self.new (read_message self.old) }
@@ -95,7 +96,7 @@ impl<'a> Reader<'a> {
 }
 
 // The packet that the bytes are, all of the bytes.
-#[tactic(auto, unfolding(crate::specs::Reading::read_packet))]
+#[tactic(auto, unfolding(crate::specs::PacketReading::read_packet))]
 fn read_whole(alloc: Global, bytes: &[u8]) -> Result<Packet, Undecoded>
     ensures { Decodes result (read_packet bytes.now) }
 {

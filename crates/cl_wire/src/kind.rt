@@ -1,7 +1,7 @@
 //! The kinds of packets.
 ghost use Rattle.std.specs.Prelude.{◌≡◌, slice_get};
 ghost use Rattle.cl_wire.specs.Spelling.{kind_byte};
-ghost use Rattle.cl_wire.specs.Reading.{all_kinds};
+ghost use Rattle.cl_wire.specs.PacketReading.{all_kinds};
 
 /// The kind of a packet, as in `Body`.
 #[derive(Clone, Copy, Debug, PartialEq, Eq)]

@@ -1,5 +1,5 @@
 use Rattle.std.proofs.Common.{subst, ◌∙◌, ap, arith}
-use Rattle.cl_wire.specs.Reading.{Decodes, read_packet}
+use Rattle.cl_wire.specs.PacketReading.{Decodes, read_packet}
 use Rattle.cl_wire.proofs.PacketLaws.{spelled_is_found, decoded_is_spelled}
 use Rattle.cl_wire.proofs.decoding.decode.Goals as goal
 
