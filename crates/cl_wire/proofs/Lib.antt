@@ -1,0 +1,12 @@
+pub mod AnswerLaws
+pub mod ContentLaws
+pub mod EntryLaws
+pub mod Lengths
+pub mod ListLaws
+pub mod Members
+pub mod NameLaws
+pub mod Nested
+pub mod NumberLaws
+pub mod PacketLaws
+pub mod Readers
+pub mod SpellingLengths

@@ -1,0 +1,29 @@
+//! The wire format: packets between the front and the nodes, as bytes and back.
+#![tactic(auto)]
+
+mod bodies;
+mod decoding;
+mod encoding;
+mod entries;
+mod fields;
+mod kind;
+mod laws;
+mod limits;
+mod lists;
+mod packet;
+mod reader;
+#[cfg(test)]
+mod tests;
+mod undecoded;
+mod writer;
+mod writing;
+
+pub use decoding::decode;
+pub use encoding::encode;
+pub use laws::{
+    bytes_spell_at_most_one, no_spelling_begins_another, no_spelling_is_longer,
+    spelling_and_reading_agree,
+};
+pub use limits::PACKET_MAX;
+pub use packet::{Body, Packet};
+pub use undecoded::{Undecoded, WireFault};
