@@ -5,16 +5,15 @@ use Rattle.cl_types.specs.Places.{Place, Stored, same_place}
 use Rattle.cl_types.proofs.Places.{same_place-true}
 use Rattle.cl_log.specs.Entry.{Entry}
 use Rattle.cl_log.specs.Kind.{writes, number_before}
-use Rattle.cl_redo.specs.Condition.{Fits, MeetsWrite}
+use Rattle.cl_redo.specs.Condition.{MeetsWrite}
 
 -- a write is met where it is met at its own place
 pub MeetsWrite-at : (stored : Place → Stored) (entry : Entry) (own : Place) → ((place : Place) → writes place entry.content ≡ same_place own place) →
-    number_before entry.content < entry.number → ((stored own).0 ≡ number_before entry.content) ⊎ (entry.number ≤ (stored own).0) → Fits entry.content (stored own).1 →
+    number_before entry.content < entry.number → ((stored own).0 ≡ number_before entry.content) ⊎ (entry.number ≤ (stored own).0) →
     MeetsWrite stored entry
-MeetsWrite-at stored entry own here before guard fits = record {
+MeetsWrite-at stored entry own here before guard = record {
   before = λ place write. before;
   guard = λ place write. subst (λ p. ((stored p).0 ≡ number_before entry.content) ⊎ (entry.number ≤ (stored p).0)) (same_place-true own place (sym (here place) ∙ write)) guard;
-  fits = λ place write applied. subst (λ p. Fits entry.content (stored p).1) (same_place-true own place (sym (here place) ∙ write)) fits;
 }
 
 -- what writes nothing is met
@@ -22,5 +21,4 @@ pub MeetsWrite-none : (stored : Place → Stored) (entry : Entry) → ((place : 
 MeetsWrite-none stored entry none = record {
   before = λ place write. absurd (false≢true (sym (none place) ∙ write));
   guard = λ place write. absurd (false≢true (sym (none place) ∙ write));
-  fits = λ place write applied. absurd (false≢true (sym (none place) ∙ write));
 }

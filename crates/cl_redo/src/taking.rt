@@ -22,12 +22,13 @@ use cl_types::{Key, Mode, NoMemory, TableName, TxnId};
 use std::alloc::Global;
 
 /// Makes room in the store and in the log for `count` more records each. What they have stays,
-/// whatever the answer.
+/// whatever the answer; where there is room already it takes no memory.
 pub fn reserve(store: &mut Store, log: &mut Log, count: usize) -> Result<(), NoMemory>
     ensures store { (place : Place) → stored store.new place ≡ stored store.old place }
     ensures entries { entries log.new ≡ entries log.old }
     ensures next { next_number log.new ≡ next_number log.old }
     ensures ok { OnOk result ((count ≤ spare store.new) × (count ≤ spare_of_log log.new)) }
+    ensures roomy { count ≤ spare store.old → count ≤ spare_of_log log.old → IsOk result }
     ensures kept { (spare store.old ≤ spare store.new) × (spare_of_log log.old ≤ spare_of_log log.new) }
 {
     store.reserve(count)?;
@@ -70,6 +71,7 @@ fn redo(
     ensures locks { OnOk result ((place : Place) → grants_at locks.new place ≡ grants_after entry.now place (grants_at locks.old place)) }
     ensures modes { OnOk result ((txn : TxnId) (place : Place) → held locks.new txn place ≡ locks_after (held locks.old) (record { number = number; content = entry.now }) txn place) }
     ensures spare { spare store.old ≤ spare store.new + 1 }
+    ensures err_spare { OnErr result (spare store.old ≤ spare store.new) }
     ensures err_store { OnErr result ((place : Place) → stored store.new place ≡ stored store.old place) }
     ensures err_locks { OnErr result ((place : Place) → grants_at locks.new place ≡ grants_at locks.old place) }
     ensures roomy { needs_no_memory entry.now ≡ true → IsOk result }
@@ -101,8 +103,9 @@ fn redo(
 ///
 /// Where the store and the locks were those of the log, they are those of the log with the record.
 /// On a store that is ahead, as the copy that a spare was sent, the guard skips what the store has
-/// already. `number` is the log's last number plus 1, at most 2^62. After an `Err` all is as it
-/// was. A Prepared, an End and a Decide take no memory where the log has room.
+/// already. An amount that does not fit the value leaves it, under the record's number. `number` is
+/// the log's last number plus 1, at most 2^62. After an `Err` all is as it was. A Prepared, an End
+/// and a Decide take no memory where the log has room.
 pub fn take(
     alloc: Global,
     store: &mut Store,
@@ -130,6 +133,7 @@ pub fn take(
     ensures err_store { OnErr result ((place : Place) → stored store.new place ≡ stored store.old place) }
     ensures err_locks { OnErr result ((place : Place) → grants_at locks.new place ≡ grants_at locks.old place) }
     ensures err_log { OnErr result ((entries log.new ≡ entries log.old) × (next_number log.new ≡ next_number log.old)) }
+    ensures err_room { OnErr result ((spare store.old ≤ spare store.new) × (spare_of_log log.old ≤ spare_of_log log.new)) }
     ensures roomy { needs_no_memory entry ≡ true → 1 ≤ spare_of_log log.old → IsOk result }
 {
     log.reserve(1)?;

@@ -1,6 +1,5 @@
 //! Records taken one by one, with what stands in the store and what is locked after each.
-ghost use Rattle.std.specs.Prelude.{◌≡◌, ◌≢◌, ◌<◌, ◌≤◌, ◌⊎◌, true, false, None, neg_ℤ};
-ghost use Rattle.std.specs.Option.{option_copied};
+ghost use Rattle.std.specs.Prelude.{◌≡◌, ◌≢◌, ◌<◌, ◌≤◌, ◌⊎◌, true, false, None};
 ghost use Rattle.cl_types.specs.declared.operations.TxnId.{TxnId};
 ghost use Rattle.cl_types.specs.Places.{Place};
 ghost use Rattle.cl_log.specs.Kind.{txn_of, is_end};
@@ -8,13 +7,13 @@ ghost use Rattle.cl_log.specs.Log.{entries, next_number};
 ghost use Rattle.cl_log.specs.Open.{has_ended};
 ghost use Rattle.cl_locks.specs.Table.{held};
 ghost use Rattle.cl_store.specs.Store.{stored};
-ghost use Rattle.cl_redo.specs.Condition.{MeetsWrite, Fits, HasSum};
+ghost use Rattle.cl_redo.specs.Condition.{MeetsWrite};
 
 use crate::{Redone, reserve, take};
 use cl_locks::{Locks, Mode};
 use cl_log::{Form, Log, LogRec};
 use cl_store::Store;
-use cl_types::{Key, TableName, TxnId, Value, number_of};
+use cl_types::{Key, NoMemory, TableName, TxnId, Value};
 use std::alloc::Global;
 use std::process::Abort;
 use std::test::Fail;
@@ -41,57 +40,13 @@ fn value(alloc: Global, bytes: &[u8]) -> Result<Option<Value>, Fail> {
     Ok(Some(Value::read(alloc, bytes)?.ok_or("no value")?))
 }
 
-// Whether the value is a number, and its sum with the amount is within 64 bits.
-fn has_sum(value: Option<&Value>, amount: i64) -> bool
-    ensures { result ≡ true → HasSum amount (option_copied value.entry) }
-{
-    match value {
-        Some(value) => match number_of(value) {
-            Some(number) => number.checked_add(amount).is_some(),
-            None => false,
-        },
-        None => false,
-    }
-}
-
-// Whether the value is a number, and it less the amount is within 64 bits.
-fn has_difference(value: Option<&Value>, amount: i64) -> bool
-    ensures { result ≡ true → HasSum (neg_ℤ amount) (option_copied value.entry) }
-{
-    match value {
-        Some(value) => match number_of(value) {
-            Some(number) => number.checked_sub(amount).is_some(),
-            None => false,
-        },
-        None => false,
-    }
-}
-
-// Whether the amount of a record that adds or subtracts can be applied.
-fn is_within(value: Option<&Value>, entry: &LogRec) -> bool
-    ensures { result ≡ true → Fits entry.now (option_copied value.entry) }
-{
-    match entry {
-        LogRec::Add(.., amount) => has_sum(value, *amount),
-        LogRec::Comp(.., Form::Amount(amount)) => has_difference(value, *amount),
-        _ => true,
-    }
-}
-
 // Whether what stands at the place of a write meets it.
-fn is_met_at(
-    store: &Store,
-    table: &TableName,
-    key: &Key,
-    before: u64,
-    number: u64,
-    entry: &LogRec,
-) -> bool
+fn is_met_at(store: &Store, table: &TableName, key: &Key, before: u64, number: u64) -> bool
     ensures { let own : Place = (table.now, key.now) in result ≡ true → (before < number)
-        × ((((stored store.now own).0 ≡ before) ⊎ (number ≤ (stored store.now own).0)) × Fits entry.now (stored store.now own).1) }
+        × (((stored store.now own).0 ≡ before) ⊎ (number ≤ (stored store.now own).0)) }
 {
-    let (found, value) = store.get(table, key);
-    before < number && (found == before || number <= found) && is_within(value, entry)
+    let (found, _) = store.get(table, key);
+    before < number && (found == before || number <= found)
 }
 
 // Whether what stands in the store meets a record.
@@ -99,15 +54,9 @@ fn is_met(store: &Store, number: u64, entry: &LogRec) -> bool
     ensures { result ≡ true → MeetsWrite (stored store.now) (record { number = number; content = entry.now }) }
 {
     match entry {
-        LogRec::Set(_, table, key, before, ..) => {
-            is_met_at(store, table, key, *before, number, entry)
-        }
-        LogRec::Add(_, table, key, before, _) => {
-            is_met_at(store, table, key, *before, number, entry)
-        }
-        LogRec::Comp(_, table, key, before, ..) => {
-            is_met_at(store, table, key, *before, number, entry)
-        }
+        LogRec::Set(_, table, key, before, ..) => { is_met_at(store, table, key, *before, number) }
+        LogRec::Add(_, table, key, before, _) => { is_met_at(store, table, key, *before, number) }
+        LogRec::Comp(_, table, key, before, ..) => { is_met_at(store, table, key, *before, number) }
         _ => true,
     }
 }
@@ -118,7 +67,7 @@ fn take_next(
     alloc: Global,
     replica: &mut Replica,
     entry: LogRec,
-) -> Result<Redone, Fail>
+) -> Result<Redone, NoMemory>
     requires own { txn_of entry ≡ TXN }
     requires running { has_ended (entries replica.old.log) TXN ≡ false }
     requires alone { (other : TxnId) (place : Place) → other ≢ TXN → held replica.old.locks other place ≡ None }
@@ -128,14 +77,15 @@ fn take_next(
     let last = replica.log.last();
     assert!(rt; last < 1 << 62);
     assert!(rt; is_met(&replica.store, last + 1, &entry));
-    Ok(take(
+    let redone = take(
         alloc,
         &mut replica.store,
         &mut replica.log,
         &mut replica.locks,
         last + 1,
         entry,
-    )?)
+    )?;
+    Ok(redone)
 }
 
 // A replica on which nothing was taken, whose log's next number is `first`.
@@ -272,5 +222,49 @@ fn room_is_made_in_both(rt: HostRuntime) -> Result<(), Fail> {
     assert_eq!(rt; replica.store.get(&t, &a).0, 0);
     replica.store.write(&t, &a, None, 1);
     assert_eq!(rt; replica.log.append(LogRec::Prepared(TXN)), 1);
+    Ok(())
+}
+
+#[test]
+fn an_amount_that_does_not_fit_leaves_the_value(rt: HostRuntime) -> Result<(), Fail> {
+    let alloc = rt.alloc();
+    let (t, a) = place(b"a")?;
+    let mut replica = new_replica(alloc, 1);
+    let set = LogRec::Set(TXN, t.copy(), a.copy(), 0, None, value(alloc, b"x")?);
+    take_next(&rt, alloc, &mut replica, set)?;
+    let add = LogRec::Add(TXN, t.copy(), a.copy(), 1, 2);
+    assert_eq!(rt; take_next(&rt, alloc, &mut replica, add)?, Redone::Applied);
+    assert!(rt; stands(&replica.store, (&t, &a), 2, Some(b"x")));
+    let set = LogRec::Set(TXN, t.copy(), a.copy(), 2, None, value(alloc, b"1")?);
+    take_next(&rt, alloc, &mut replica, set)?;
+    let subtract = LogRec::Comp(TXN, t.copy(), a.copy(), 3, 2, Form::Amount(i64::MIN));
+    assert_eq!(rt;
+        take_next(&rt, alloc, &mut replica, subtract)?,
+        Redone::Applied
+    );
+    assert!(rt; stands(&replica.store, (&t, &a), 4, Some(b"1")));
+    Ok(())
+}
+
+// Where an allocation fails, the replica is as it was, and takes the record then.
+#[test]
+fn a_want_of_memory_leaves_the_replica(rt: HostRuntime) -> Result<(), Fail> {
+    let alloc = rt.alloc();
+    let (t, a) = place(b"a")?;
+    let mut replica = new_replica(alloc, 1);
+    let set = LogRec::Set(TXN, t.copy(), a.copy(), 0, None, value(alloc, b"5")?);
+    let again = LogRec::Set(TXN, t.copy(), a.copy(), 0, None, value(alloc, b"5")?);
+    if take_next(&rt, alloc, &mut replica, set).is_err() {
+        assert_eq!(rt; replica.log.last(), 0);
+        assert!(rt; stands(&replica.store, (&t, &a), 0, None));
+        assert_eq!(rt; replica.locks.holds(TXN, &t, &a), None);
+        assert_eq!(rt;
+            take_next(&rt, alloc, &mut replica, again)?,
+            Redone::Applied
+        );
+    }
+    assert_eq!(rt; replica.log.last(), 1);
+    assert!(rt; stands(&replica.store, (&t, &a), 1, Some(b"5")));
+    assert_eq!(rt; replica.locks.holds(TXN, &t, &a), Some(Mode::Exclusive));
     Ok(())
 }

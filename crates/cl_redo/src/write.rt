@@ -1,11 +1,10 @@
 //! The write of a record: made ready by guard, and then made.
-ghost use Rattle.std.specs.Prelude.{◌≡◌, ◌+◌, ◌≤◌, ◌<◌, ◌==◌, true, IfOk, if◌then◌else◌, neg_ℤ};
+ghost use Rattle.std.specs.Prelude.{◌≡◌, ◌+◌, ◌≤◌, ◌<◌, ◌==◌, true, IfOk, if◌then◌else◌};
 ghost use Rattle.std.specs.Option.{option_copied};
 ghost use Rattle.cl_types.specs.Places.{Place, same_place};
 ghost use Rattle.cl_log.specs.Kind.{writes, number_before};
 ghost use Rattle.cl_log.specs.Store.{value_after, less};
 ghost use Rattle.cl_store.specs.Store.{stored, spare};
-ghost use Rattle.cl_redo.specs.Condition.{Fits, HasSum};
 ghost use Rattle.cl_redo.specs.Write.{guarded, redone_of, after_write, CanWrite, IsAbove};
 
 use crate::Redone;
@@ -31,15 +30,22 @@ fn copy_of(alloc: Global, value: Option<&Value>) -> Result<Option<Value>, NoMemo
     }
 }
 
-// The number that the value is, less the amount.
+// The number that the value is, less the amount. A value that is no number stays, and so does one
+// whose difference is outside 64 bits.
 fn difference(alloc: Global, value: Option<&Value>, amount: i64) -> Result<Option<Value>, NoMemory>
-    requires { HasSum (neg_ℤ amount) (option_copied value) }
     ensures { IfOk result (λ difference. difference ≡ less amount (option_copied value.entry)) }
 {
-    let Some(number) = value.and_then(|value| number_of(value)) else {
-        unreachable!()
+    let minuend = match value {
+        Some(value) => number_of(value),
+        None => Some(0),
     };
-    Ok(Some(Value::of_number(alloc, number - amount)?))
+    let Some(number) = minuend else {
+        return copy_of(alloc, value);
+    };
+    match number.checked_sub(amount) {
+        Some(difference) => Ok(Some(Value::of_number(alloc, difference)?)),
+        None => copy_of(alloc, value),
+    }
 }
 
 // The value that a record leaves where this one stands.
@@ -48,7 +54,6 @@ fn value_after(
     entry: &LogRec,
     value: Option<&Value>,
 ) -> Result<Option<Value>, NoMemory>
-    requires { Fits entry.now (option_copied value) }
     ensures { IfOk result (λ after. after ≡ value_after entry.now (option_copied value.entry)) }
 {
     match entry {
@@ -72,7 +77,6 @@ pub(crate) fn guard(
     before: u64,
     entry: &LogRec,
 ) -> Result<Guarded, NoMemory>
-    requires { before ≡ (stored store.old (table.now, key.now)).0 → Fits entry.now (stored store.old (table.now, key.now)).1 }
     ensures same { (place : Place) → stored store.new place ≡ stored store.old place }
     ensures kept { spare store.old ≤ spare store.new }
     ensures guarded { IfOk result (λ write. write ≡ guarded entry.now before (stored store.old (table.now, key.now))) }

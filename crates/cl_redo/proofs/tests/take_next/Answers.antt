@@ -20,6 +20,6 @@ pub returns-clause-running : goal.returns-clause-running
 returns-clause-running g c goes_on =
     let entry : Entry = record { number = c.last-last.result + 1; content = c.args.entry } in
     let own : same_txn (txn_of c.args.entry) TXN ≡ true = subst (λ t. same_txn t TXN ≡ true) (sym c.requires.own) (same_txn-itself TXN) in
-    ap (λ (es : List Entry). has_ended es TXN) c.in_ok-take.ensures.log
+    ap (λ (es : List Entry). has_ended es TXN) c.in_ok-redone.ensures.log
     ∙ has_ended_push-own TXN (entries c.args.replica.now.log) entry own
     ∙ ap (λ b. b || is_end c.args.entry) c.requires.running ∙ goes_on
