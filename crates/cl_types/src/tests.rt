@@ -178,22 +178,3 @@ fn lists_keep_their_items(rt: HostRuntime) -> Result<(), Fail> {
     assert_eq!(rt; log.len(), 1);
     Ok(())
 }
-
-#[test]
-fn a_refused_growth_leaves_the_list(rt: HostRuntime) {
-    let mut list: GrowingList<u64> = GrowingList::new(rt.alloc());
-    let mut log: AppendOnlyList<u64> = AppendOnlyList::new(rt.alloc());
-    for item in 0..40 {
-        let len = list.len();
-        let grown = list.push(item);
-        assert!(rt; grown.is_ok() || list.len() == len);
-        assert!(rt; grown.is_err() || list.as_slice().last().copied() == Some(item));
-        assert!(rt; list.len() < 3 || list.at(2).copied().is_some());
-
-        let entries = log.len();
-        let grown = log.reserve(1);
-        assert_eq!(rt; log.len(), entries);
-        let pushed = log.push(item);
-        assert!(rt; grown.is_err() || pushed.is_ok());
-    }
-}
