@@ -20,6 +20,12 @@ unfolding RepliesAgree
 RepliesAgree-front values [] ys h = tt
 RepliesAgree-front values (x ∷ xs) ys h = (h.0, RepliesAgree-front (after_operation values x) xs ys h.1)
 
+-- the replies to the second, on the map that the first leaves
+pub RepliesAgree-back : (values : Values) (xs ys : List Operation) → RepliesAgree values (xs ++ ys) → RepliesAgree (after_operations values xs) ys
+unfolding RepliesAgree
+RepliesAgree-back values [] ys h = h
+RepliesAgree-back values (x ∷ xs) ys h = RepliesAgree-back (after_operation values x) xs ys h.1
+
 -- one operation that replies as it must
 pub RepliesAgree-single : (values : Values) (operation : Operation) → operation.outcome ≡ Some (Done (plain_reply operation.op (values operation.place))) → RepliesAgree values (operation ∷ [])
 unfolding RepliesAgree

@@ -1,16 +1,17 @@
 -- What the kept history promises of a transcript.
-use Rattle.std.specs.Prelude.{◌≡◌, ℕ, ◌<◌, List, length, Some, None, IsSome, slice_get, take, ◌↔◌}
+use Rattle.std.specs.Prelude.{◌≡◌, ℕ, ◌<◌, List, ◌++◌, length, Some, None, IsSome, slice_get, take, ◌↔◌}
 use Rattle.std.specs.List.{flat_map}
 use Rattle.cl_types.specs.declared.operations.Command.{Command}
 use Rattle.cl_types.specs.declared.operations.Command.TheVariants.{Begin, Work, Commit, Abort}
 use Rattle.cl_types.specs.declared.operations.TxnId.{TxnId}
 use Rattle.cl_types.specs.declared.answers.AbortCause.{AbortCause}
+use Rattle.cl_types.specs.declared.answers.Reply.{Reply}
 use Rattle.cl_types.specs.declared.answers.Outcome.{Outcome}
-use Rattle.cl_types.specs.declared.answers.Outcome.TheVariants.{Committed, Aborted, NotTxn, InTxn, Full}
+use Rattle.cl_types.specs.declared.answers.Outcome.TheVariants.{Done, Begun, Committed, Aborted, NotTxn, InTxn, Full}
 use Rattle.cl_lines.specs.declared.line.LineFault.{LineFault}
 use Rattle.cl_lines.specs.declared.out.Out.TheVariants.{Answer, BadLine}
 use Rattle.cl_lines.specs.Line.{fault_of}
-use Rattle.cl_serial.specs.Transcript.{Entry, fed, written, questions, answers}
+use Rattle.cl_serial.specs.Transcript.{Entry, fed, written, questions, answers, faulty_lines, refusals}
 use Rattle.cl_serial.specs.Exchanges.{Exchange, exchanges, outcome_of}
 use Rattle.cl_serial.specs.Transactions.{Transaction, Session, session_after, transaction_of, commands_of}
 use Rattle.cl_serial.specs.PlainMap.{Operation, operations, no_values, RepliesAgree}
@@ -85,7 +86,7 @@ IsFull transaction = length (operations transaction.commands) ≡ 64
 abbrev pub InTransaction : Session → (Transaction → Type 0) → Type 0
 InTransaction session P = (transaction : Transaction) × (session.current ≡ Some transaction) × P transaction
 
--- the outcomes ERR NOTXN, ERR INTXN and ERR FULL come exactly where they must
+-- each outcome comes only where it may, and ERR NOTXN, ERR INTXN, ERR FULL and the OK to BEGIN exactly where they must
 pub record FitsTurn (session : Session) (command : Command) (outcome : Outcome) : Type 0 where
   -- for a command other than BEGIN outside a transaction
   pub not_txn : (outcome ≡ NotTxn) ↔ ((session.current ≡ None) × (command ≡ Begin → ⊥))
@@ -93,6 +94,14 @@ pub record FitsTurn (session : Session) (command : Command) (outcome : Outcome) 
   pub in_txn : (outcome ≡ InTxn) ↔ (InTransaction session (λ _. Unit {0}) × (command ≡ Begin))
   -- for an operation in a transaction that has 64
   pub full : (outcome ≡ Full) ↔ (InTransaction session IsFull × IsOperation command)
+  -- for BEGIN outside a transaction
+  pub begun : (outcome ≡ Begun) ↔ ((session.current ≡ None) × (command ≡ Begin))
+  -- the reply of an operation answers an operation in a transaction
+  pub done : (reply : Reply) → outcome ≡ Done reply → InTransaction session (λ _. Unit {0}) × IsOperation command
+  -- COMMITTED answers COMMIT in a transaction
+  pub committed : outcome ≡ Committed → InTransaction session (λ _. Unit {0}) × (command ≡ Commit)
+  -- ABORTED answers a command other than BEGIN in a transaction
+  pub aborted : (cause : AbortCause) → outcome ≡ Aborted cause → InTransaction session (λ _. Unit {0}) × (command ≡ Begin → ⊥)
 
 -- each answer fits the session as the exchanges before it left it
 abbrev pub AnswersFitTurns : List Entry → Type 0
@@ -103,6 +112,10 @@ AnswersFitTurns transcript = (session k : ℕ) (exchange : Exchange) (outcome : 
 abbrev pub RefusalsTrue : List Entry → Type 0
 RefusalsTrue transcript = (place line : ℕ) (fault : LineFault) → StandsAt transcript place (written (BadLine line fault)) →
     (before : ℕ) × (text : List ℕ) × (before < place) × StandsAt transcript before (fed line text) × (fault_of text ≡ Some fault)
+
+-- the refusals are those of the first lines with a fault, each once and in their order
+abbrev pub RefusalsOnce : List Entry → Type 0
+RefusalsOnce transcript = (rest : List (ℕ × LineFault)) × (faulty_lines transcript ≡ refusals transcript ++ rest)
 
 -- each well-formed client line is answered, and each line with a fault is refused
 pub record EveryLineAnswered (transcript : List Entry) : Type 0 where
@@ -118,3 +131,4 @@ pub record Serializable (transcript : List Entry) (history : List TxnId) : Type 
   pub answers_follow : AnswersFollow transcript
   pub answers_fit_turns : AnswersFitTurns transcript
   pub refusals_true : RefusalsTrue transcript
+  pub refusals_once : RefusalsOnce transcript

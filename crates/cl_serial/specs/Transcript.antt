@@ -6,9 +6,10 @@ use Rattle.cl_types.specs.AppendOnlyList.{entries}
 use Rattle.cl_types.specs.declared.append_only_list.AppendOnlyList.{AppendOnlyList}
 use Rattle.cl_types.specs.declared.operations.Command.{Command}
 use Rattle.cl_types.specs.declared.answers.Outcome.{Outcome}
+use Rattle.cl_lines.specs.declared.line.LineFault.{LineFault}
 use Rattle.cl_lines.specs.declared.out.Out.{Out}
 use Rattle.cl_lines.specs.declared.out.Out.TheVariants.{Answer, BadLine}
-use Rattle.cl_lines.specs.Line.{client_of}
+use Rattle.cl_lines.specs.Line.{client_of, fault_of}
 use Rattle.cl_lines.specs.Out.{text_of}
 use Rattle.cl_serial.specs.declared.transcript.Said.{Said}
 use Rattle.cl_serial.specs.declared.transcript.Said.TheVariants as said
@@ -85,3 +86,33 @@ questions session transcript = gather (asked_in session) 0 transcript
 -- the outcomes that a session was answered, each with its place
 abbrev pub answers : ℕ → List Entry → List (Outcome × ℕ)
 answers session transcript = gather (answered_in session) 0 transcript
+
+-- the fault, where there is one, with the number of its line
+abbrev pub numbered_fault : ℕ → Option LineFault → List (ℕ × LineFault)
+numbered_fault number None = []
+numbered_fault number (Some fault) = (number, fault) ∷ []
+
+-- the fault of the line that an entry feeds
+abbrev pub faulty_in : ℕ → Entry → List (ℕ × LineFault)
+faulty_in place (fed number text) = numbered_fault number (fault_of text)
+faulty_in place (written out) = []
+faulty_in place quiet = []
+
+-- the refusal that a printed line is
+abbrev pub refusal_in : Out → List (ℕ × LineFault)
+refusal_in (Answer session outcome) = []
+refusal_in (BadLine line fault) = (line, fault) ∷ []
+
+-- the refusal that an entry writes
+abbrev pub refused_in : ℕ → Entry → List (ℕ × LineFault)
+refused_in place (fed number text) = []
+refused_in place (written out) = refusal_in out
+refused_in place quiet = []
+
+-- the fed lines that have a fault, each by its number with its fault
+abbrev pub faulty_lines : List Entry → List (ℕ × LineFault)
+faulty_lines transcript = gather faulty_in 0 transcript
+
+-- the refusals that were written, each by the number of its line with the fault
+abbrev pub refusals : List Entry → List (ℕ × LineFault)
+refusals transcript = gather refused_in 0 transcript

@@ -11,13 +11,14 @@ use Rattle.cl_types.specs.declared.operations.TxnId.{TxnId}
 use Rattle.cl_types.specs.declared.answers.AbortCause.{AbortCause}
 use Rattle.cl_types.specs.declared.answers.Outcome.{Outcome}
 use Rattle.cl_types.specs.declared.answers.Outcome.TheVariants.{Committed, Aborted}
-use Rattle.cl_serial.specs.Transcript.{Entry, questions, answers}
+use Rattle.cl_serial.specs.Transcript.{Entry, questions, answers, refusals}
 use Rattle.cl_serial.specs.Exchanges.{Exchange, pair_up, in_turn}
 use Rattle.cl_serial.specs.Transactions.{Transaction, Session, session_of, session_after, commands_of, commands_in, numbered, transactions, is_end}
-use Rattle.cl_serial.specs.PlainMap.{Values, Operation, operations, no_values, RepliesAgree}
+use Rattle.cl_serial.specs.PlainMap.{Values, Operation, operations, no_values, after_operations, RepliesAgree}
 use Rattle.cl_serial.specs.Serial.{StandsAt, IsIn, Asks, operations_of, HistoryFits, RealTimeOrder, Serializable}
 use Rattle.cl_serial.proofs.Places.{StandsAt-push, StandsAt-push_last, StandsAt-within, StandsAt-append_left, IsIn-push, IsIn-push_last, IsIn-nil}
-use Rattle.cl_serial.proofs.Replayed.{RepliesAgree-front}
+use Rattle.cl_serial.proofs.Replayed.{RepliesAgree-front, RepliesAgree-back}
+use Rattle.clustra.specs.Run.{values_after, OpenRepliesAgree}
 use Rattle.clustra.specs.Kept.{names, GoesOn, EndsCommitted, IsOpen, operations_in, done_by, Kept, Served}
 
 length-names : (n : ℕ) → length (names n) ≡ n
@@ -120,6 +121,18 @@ no_commands session transcript n exchange none h =
     nothing : (n : ℕ) → IsIn (commands_in (numbered [] n)) exchange → ⊥
     nothing zero h = IsIn-nil exchange h
     nothing (suc k) h = IsIn-nil exchange h
+
+-- a session that no line asks is in no transaction
+no_open : (session : ℕ) (transcript : List Entry) (values : Values) → questions session transcript ≡ [] → RepliesAgree values (operations (commands_in (session_of session transcript).current))
+unfolding pair_up in_turn RepliesAgree
+no_open session transcript values none =
+    let P : List (_ × ℕ) → Type 0 = λ asked. RepliesAgree values (operations (commands_in (session_after (in_turn (pair_up asked (answers session transcript)))).current)) in
+    subst P (sym none) tt
+
+-- what was done in the transaction that goes on
+done_by-open : (current : Option Transaction) → done_by (option_to_list current) ≡ operations (commands_in current)
+done_by-open None = refl
+done_by-open (Some transaction) = append-nil (operations transaction.commands)
 
 module _ (transcript : List Entry) (history : List TxnId) (values : Values) (begun : ℕ) (count : Option ℕ) (h : Served transcript history values begun count) where
   abbrev state : Session
@@ -224,15 +237,13 @@ module _ (transcript : List Entry) (history : List TxnId) (values : Values) (beg
           let both : Some (Aborted cause, place) ≡ Some (Committed, (ends_at k transaction at).place) = sym is ∙ ap (λ (e : Exchange). e.answer) last in
           let outcomes : Aborted cause ≡ Committed = ap (λ (o : Option (Outcome × ℕ)). (unwrap_or o (Committed, 0)).0) both in cc
 
-  replies : RepliesAgree no_values (operations_of transcript history)
-  replies =
-      let P : List Operation → Type 0 = λ list. RepliesAgree no_values list in
-      let Q : List TxnId → Type 0 = λ list. RepliesAgree no_values (operations_of transcript list) in
-      let whole : done_by (take (length state.ended) state.ended) ≡ done_by state.ended = ap done_by (take_all (length state.ended) state.ended (omega arith)) in
-      let named : operations_of transcript (names (length state.ended)) ≡ done_by state.ended =
-      same_operations (length state.ended) ∙ operations_of_names state.ended (option_to_list state.current) (length state.ended) (omega arith) ∙ whole in
-      subst Q (sym kept.history_is) (subst P (sym named)
-      (RepliesAgree-front no_values (done_by state.ended) (done_by (option_to_list state.current)) (subst P (flat_map-append operations_in state.ended (option_to_list state.current)) kept.replies)))
+  -- the members' operations are those of the ended transactions
+  members_did : operations_of transcript history ≡ done_by state.ended
+  members_did =
+      ap (operations_of transcript) kept.history_is
+      ∙ same_operations (length state.ended)
+      ∙ operations_of_names state.ended (option_to_list state.current) (length state.ended) (omega arith)
+      ∙ ap done_by (take_all (length state.ended) state.ended (omega arith))
     where
       -- the names are all of session 1
       same_operations : (n : ℕ) → operations_of transcript (names n) ≡ flat_map (λ (name : TxnId). operations (commands_in (numbered all name.number))) (names n)
@@ -241,6 +252,30 @@ module _ (transcript : List Entry) (history : List TxnId) (values : Values) (beg
           flat_map-append (λ (name : TxnId). operations (commands_of transcript name)) (names n) (record { session = 1; number = suc n } ∷ [])
           ∙ ap (λ list. list ++ (operations (commands_in (slice_get all n)) ++ [])) (same_operations n)
           ∙ sym (flat_map-append (λ (name : TxnId). operations (commands_in (numbered all name.number))) (names n) (record { session = 1; number = suc n } ∷ []))
+
+  -- all replies, those of the transaction that goes on behind those of the others
+  all_replies : RepliesAgree no_values (done_by state.ended ++ done_by (option_to_list state.current))
+  all_replies = let P : List Operation → Type 0 = λ list. RepliesAgree no_values list in subst P (flat_map-append operations_in state.ended (option_to_list state.current)) kept.replies
+
+  replies : RepliesAgree no_values (operations_of transcript history)
+  replies =
+      let P : List Operation → Type 0 = λ list. RepliesAgree no_values list in
+      subst P (sym members_did) (RepliesAgree-front no_values (done_by state.ended) (done_by (option_to_list state.current)) all_replies)
+
+  open_replies : RepliesAgree (values_after transcript history) (operations (commands_in state.current))
+  open_replies =
+      let P : List Operation → Type 0 = λ list. RepliesAgree (after_operations no_values list) (operations (commands_in state.current)) in
+      let Q : List Operation → Type 0 = λ list. RepliesAgree (after_operations no_values (done_by state.ended)) list in
+      subst P (sym members_did) (subst Q (done_by-open state.current) (RepliesAgree-back no_values (done_by state.ended) (done_by (option_to_list state.current)) all_replies))
+
+  -- the transaction that a session is still in replies on the map after the history
+  pub OpenRepliesAgree-served : OpenRepliesAgree transcript history
+  OpenRepliesAgree-served session = by_session (cases_eq session 1)
+    where
+      by_session : (session ≡ 1) ⊎ (session ≡ 1 → ⊥) → RepliesAgree (values_after transcript history) (operations (commands_in (session_of session transcript).current))
+      by_session (inl first) =
+          let P : ℕ → Type 0 = λ s. RepliesAgree (values_after transcript history) (operations (commands_in (session_of s transcript).current)) in subst P (sym first) open_replies
+      by_session (inr other) = no_open session transcript (values_after transcript history) (h.unasked session other)
 
   fits : HistoryFits transcript history
   fits = record {
@@ -274,5 +309,6 @@ module _ (transcript : List Entry) (history : List TxnId) (values : Values) (beg
     real_time_order = real_time;
     answers_follow = h.follow;
     answers_fit_turns = h.fit_turns;
-    refusals_true = h.refusals;
+    refusals_true = h.refused;
+    refusals_once = ([], h.refused_once ∙ sym (append-nil (refusals transcript)));
   }

@@ -1,6 +1,7 @@
 -- What was read so far, piece by piece.
 use Rattle.std.proofs.Common.{◌≡◌, ℕ, ◌+◌, ◌-◌, ◌<◌, ◌≤◌, inl, inr, ◌==◌, not, List, [], ◌++◌, length, get_or, Option, Ok, Err, refl, sym, ◌∙◌, ap, subst, arith}
 use Rattle.std.proofs.lemmas.Bool.{cases_lt}
+use Rattle.std.proofs.lemmas.List.{length-append}
 use Rattle.cl_io.specs.Told.{prepend_told}
 use Rattle.cl_io.proofs.ToldLemmas.{prepend_told-nil, prepend_told-more}
 use Rattle.cl_serial.specs.Bytes.{whole_lines}
@@ -47,10 +48,11 @@ ReadSoFar-more start now next count count' bytes piece grown done h more adds co
 
 -- the piece could not be added
 pub Reads-refused : {V : Type 0} (view : V → List ℕ) (start now next : Option (List ℕ)) (count : ℕ) (bytes piece grown : List ℕ) (fault : InputFault) → ReadSoFar start now count bytes → now ≡ prepend_told piece next →
-    AddsPiece bytes piece grown (Err fault) → Reads view start next (Err fault)
-Reads-refused view start now next count bytes piece grown fault h more adds = record {
+    AddsPiece bytes piece grown (Err fault) → length bytes + length piece ≤ 25700001 → Reads view start next (Err fault)
+Reads-refused view start now next count bytes piece grown fault h more adds short = record {
   read = bytes ++ piece;
   taken = prepend_told-more start now next bytes piece h.taken more;
+  within = let e = length-append bytes piece in omega (arith, e, short);
   ends = by_fault fault adds;
 }
   where
@@ -70,6 +72,7 @@ pub Reads-fault : {V : Type 0} (view : V → List ℕ) (start now next : Option 
 Reads-fault view start now next count bytes h same = record {
   read = bytes;
   taken = h.taken ∙ ap (prepend_told bytes) (sym same);
+  within = omega (arith, few_bytes_of bytes h.fits);
   ends = h.fits;
 }
 
@@ -79,6 +82,7 @@ pub Reads-end : {V : Type 0} (view : V → List ℕ) (start now next : Option (L
 Reads-end view start now next count bytes none all h more is_none viewed = record {
   read = bytes;
   taken = h.taken ∙ ap (prepend_told bytes) (more ∙ ap (λ list. prepend_told list next) is_none ∙ prepend_told-nil next);
+  within = omega (arith, few_bytes_of bytes h.fits);
   ends = (viewed, h.fits);
 }
 
@@ -88,5 +92,6 @@ unfolding whole_lines
 Reads-nothing view start = record {
   read = [];
   taken = sym (prepend_told-nil start);
+  within = omega arith;
   ends = within [] (omega arith) (omega arith);
 }

@@ -3,6 +3,7 @@ pub mod Turns
 pub mod Steps
 pub mod Pairs
 pub mod Answered
+pub mod Unaborted
 pub mod Members
 pub mod Refused
 pub mod Lines

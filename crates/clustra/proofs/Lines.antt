@@ -1,5 +1,6 @@
 -- What the server keeps together, after one more line.
-use Rattle.std.proofs.Common.{◌≡◌, ℕ, ◌+◌, List, [], length, Option, Some, None, Ok, Err, refl, sym, ◌∙◌, ap, subst}
+use Rattle.std.proofs.lemmas.List.{append-nil}
+use Rattle.std.proofs.Common.{◌≡◌, ℕ, ◌+◌, List, [], ◌++◌, length, Option, Some, None, Ok, Err, refl, sym, ◌∙◌, ap, subst}
 use Rattle.cl_types.specs.declared.operations.Command.{Command}
 use Rattle.cl_types.specs.declared.operations.TxnId.{TxnId}
 use Rattle.cl_types.specs.declared.answers.Outcome.{Outcome}
@@ -7,7 +8,7 @@ use Rattle.cl_lines.specs.declared.line.Line.TheVariants.{Client}
 use Rattle.cl_lines.specs.declared.line.LineFault.{LineFault}
 use Rattle.cl_lines.specs.declared.out.Out.TheVariants.{Answer, BadLine}
 use Rattle.cl_lines.specs.Line.{line_of, client_of, client_part, fault_of, fault_part}
-use Rattle.cl_serial.specs.Transcript.{Entry, gather}
+use Rattle.cl_serial.specs.Transcript.{Entry, gather, faulty_lines, refusals, numbered_fault}
 use Rattle.cl_serial.specs.Exchanges.{pair_up, in_turn}
 use Rattle.cl_serial.specs.Transactions.{Session, session_of, session_step}
 use Rattle.cl_types.specs.Places.{Place}
@@ -18,10 +19,11 @@ use Rattle.clustra.specs.Kept.{Kept, Served}
 use Rattle.clustra.proofs.Turns.{exchange_at}
 use Rattle.clustra.proofs.Orders.{InOrder-nil}
 use Rattle.clustra.proofs.Steps.{Kept-turn, FitsTurn-turn}
-use Rattle.clustra.proofs.Pairs.{with_pair, length-with_pair}
+use Rattle.clustra.proofs.Pairs.{with_pair, length-with_pair, faulty_lines-with_pair, refusals-with_pair}
 use Rattle.clustra.proofs.Answered.{questions-others, answers-others, paired-longer, session_of-first, AnswersFollow-longer, AnswersFitTurns-longer, RefusalsTrue-longer, EveryLineAnswered-longer}
 use Rattle.clustra.proofs.Refused.{Served-refused_line}
 use Rattle.clustra.proofs.Members.{CommittedForMembers-longer}
+use Rattle.clustra.proofs.Unaborted.{NeverAborts-answered}
 
 -- nothing so far
 pub Served-start : (values : Values) → ((place : Place) → values place ≡ None) → Served [] [] values 0 None
@@ -44,7 +46,9 @@ Served-start values empty = record {
   for_members = λ session place h. absurd (cc);
   follow = λ session k outcome place h. absurd (cc);
   fit_turns = λ session k exchange outcome h is. absurd (cc);
-  refusals = λ place line fault h. absurd (cc);
+  refused = λ place line fault h. absurd (cc);
+  refused_once = refl;
+  unaborted = λ session place cause h. absurd (cc);
   every_line = record {
     answered = λ session k exchange h. absurd (cc);
     refused = λ place line text fault h is. absurd (cc);
@@ -79,7 +83,11 @@ Served-answered transcript number text command outcome history values after begu
       follow = AnswersFollow-longer transcript number text command outcome reads h.follow h.paired;
       fit_turns = AnswersFitTurns-longer transcript number text command outcome reads h.fit_turns h.paired
           (subst G (sym outcome_is) (subst F (sym h.kept.count_is) (FitsTurn-turn state.ended state.current command values asked)));
-      refusals = RefusalsTrue-longer transcript number text command outcome reads h.refusals;
+      refused = RefusalsTrue-longer transcript number text command outcome reads h.refused;
+      refused_once = faulty_lines-with_pair transcript number text (Answer 1 outcome)
+          ∙ ap (λ fault. faulty_lines transcript ++ numbered_fault number fault) well ∙ append-nil (faulty_lines transcript)
+          ∙ h.refused_once ∙ sym (refusals-with_pair transcript number text (Answer 1 outcome) ∙ append-nil (refusals transcript));
+      unaborted = NeverAborts-answered transcript number text command outcome values count outcome_is h.unaborted;
       every_line = EveryLineAnswered-longer transcript number text command outcome reads h.every_line well h.paired;
     }
 

@@ -7,8 +7,8 @@ use Rattle.cl_types.specs.declared.operations.Command.{Command}
 use Rattle.cl_types.specs.declared.answers.Outcome.{Outcome}
 use Rattle.cl_lines.specs.declared.out.Out.{Out}
 use Rattle.cl_lines.specs.declared.out.Out.TheVariants.{Answer}
-use Rattle.cl_lines.specs.Line.{client_of}
-use Rattle.cl_serial.specs.Transcript.{Entry, fed, written, questions, answers, asked_in, answered_in, command_in, outcome_in}
+use Rattle.cl_lines.specs.Line.{client_of, fault_of}
+use Rattle.cl_serial.specs.Transcript.{Entry, fed, written, questions, answers, asked_in, answered_in, command_in, outcome_in, faulty_in, refused_in, faulty_lines, refusals, numbered_fault, refusal_in}
 use Rattle.cl_serial.specs.Exchanges.{Exchange, exchanges, pair_up}
 use Rattle.cl_serial.specs.Transactions.{session_of, session_after, session_step}
 use Rattle.cl_serial.proofs.Gathered.{gather-push, pair_up-both, in_turn-pair_up}
@@ -40,6 +40,19 @@ answers-with_pair session transcript number text out =
     gather-push (answered_in session) (transcript ++ fed number text ∷ []) (written out)
     ∙ ap (λ more. more ++ outcome_in session (length (transcript ++ fed number text ∷ [])) out) (gather-push (answered_in session) transcript (fed number text) ∙ append-nil (answers session transcript))
     ∙ ap (λ n. answers session transcript ++ outcome_in session n out) (after_line transcript number text)
+
+pub faulty_lines-with_pair : (transcript : List Entry) (number : ℕ) (text : List ℕ) (out : Out) →
+    faulty_lines (with_pair transcript number text out) ≡ faulty_lines transcript ++ numbered_fault number (fault_of text)
+faulty_lines-with_pair transcript number text out =
+    gather-push faulty_in (transcript ++ fed number text ∷ []) (written out)
+    ∙ append-nil (faulty_lines (transcript ++ fed number text ∷ []))
+    ∙ gather-push faulty_in transcript (fed number text)
+
+pub refusals-with_pair : (transcript : List Entry) (number : ℕ) (text : List ℕ) (out : Out) →
+    refusals (with_pair transcript number text out) ≡ refusals transcript ++ refusal_in out
+refusals-with_pair transcript number text out =
+    gather-push refused_in (transcript ++ fed number text ∷ []) (written out)
+    ∙ ap (λ more. more ++ refusal_in out) (gather-push refused_in transcript (fed number text) ∙ append-nil (refusals transcript))
 
 -- numbers that differ do not pass the test
 unequal : (a b : ℕ) → a ≢ b → nat_eq a b ≡ false

@@ -1,5 +1,5 @@
 -- One more line that is refused: what was promised of the transcript holds of the longer one.
-use Rattle.std.proofs.Common.{◌≡◌, ℕ, ◌+◌, ◌<◌, List, ◌++◌, length, take, Option, Some, None, IsSome, sym, ◌∙◌, ap, subst, arith}
+use Rattle.std.proofs.Common.{◌≡◌, ℕ, ◌+◌, ◌<◌, List, [], ◌∷◌, ◌++◌, length, take, Option, Some, None, IsSome, sym, ◌∙◌, ap, subst, arith}
 use Rattle.std.proofs.lemmas.List.{append-nil}
 use Rattle.cl_types.specs.declared.operations.TxnId.{TxnId}
 use Rattle.cl_types.specs.declared.answers.Outcome.{Outcome}
@@ -7,7 +7,7 @@ use Rattle.cl_types.specs.declared.answers.Outcome.TheVariants.{Committed}
 use Rattle.cl_lines.specs.declared.line.LineFault.{LineFault}
 use Rattle.cl_lines.specs.declared.out.Out.TheVariants.{Answer, BadLine}
 use Rattle.cl_lines.specs.Line.{client_of, fault_of}
-use Rattle.cl_serial.specs.Transcript.{Entry, fed, written, questions, answers, command_in}
+use Rattle.cl_serial.specs.Transcript.{Entry, fed, written, questions, answers, command_in, faulty_lines, numbered_fault}
 use Rattle.cl_serial.specs.Exchanges.{Exchange, exchanges, outcome_of, pair_up, in_turn}
 use Rattle.cl_serial.specs.Transactions.{Session, session_of, session_after, commands_in, numbered}
 use Rattle.cl_types.specs.Places.{Place}
@@ -16,7 +16,8 @@ use Rattle.cl_serial.specs.Serial.{StandsAt, IsIn, IsAnswered, CommittedForMembe
 use Rattle.cl_serial.proofs.Growth.{all_of}
 use Rattle.clustra.specs.Kept.{Kept, Served}
 use Rattle.clustra.proofs.Turns.{Kept-idle}
-use Rattle.clustra.proofs.Pairs.{with_pair, length-with_pair, questions-with_pair, answers-with_pair}
+use Rattle.clustra.proofs.Pairs.{with_pair, length-with_pair, questions-with_pair, answers-with_pair, faulty_lines-with_pair, refusals-with_pair}
+use Rattle.clustra.proofs.Unaborted.{NeverAborts-refused}
 use Rattle.clustra.proofs.Answered.{Standing, before, the_line, the_answer, standing, line_stands, answer_stands, stands_before, fault_in}
 
 module _ (transcript : List Entry) (number : ℕ) (text : List ℕ) (fault : LineFault) (reads : client_of text ≡ None) (faulty : fault_of text ≡ Some fault) where
@@ -101,7 +102,12 @@ module _ (transcript : List Entry) (number : ℕ) (text : List ℕ) (fault : Lin
         for_members = λ session place at. members_before history h.for_members session place (standing transcript number text (BadLine number fault) place (written (Answer session Committed)) at);
         follow = follow_longer h.follow;
         fit_turns = fit_longer h.fit_turns;
-        refusals = λ place line given at. refused_before h.refusals place line given (standing transcript number text (BadLine number fault) place (written (BadLine line given)) at);
+        refused_once = faulty_lines-with_pair transcript number text (BadLine number fault)
+            ∙ ap (λ has. faulty_lines transcript ++ numbered_fault number has) faulty
+            ∙ ap (λ list. list ++ (number, fault) ∷ []) h.refused_once
+            ∙ sym (refusals-with_pair transcript number text (BadLine number fault));
+        unaborted = NeverAborts-refused transcript number text fault h.unaborted;
+        refused = λ place line given at. refused_before h.refused place line given (standing transcript number text (BadLine number fault) place (written (BadLine line given)) at);
         every_line = record {
           answered = λ session. subst R (sym (same_exchanges session)) (h.every_line.answered session);
           refused = λ place line refused given at is. refused_after h.every_line place line refused given (standing transcript number text (BadLine number fault) place (fed line refused) at) is;

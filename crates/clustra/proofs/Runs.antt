@@ -20,6 +20,7 @@ ReadsInput-all view status before after transcript all h first whole ended =
     record {
       read = h.read;
       taken = h.taken;
+      within = h.within;
       first_lines = subst P h.ends.0 first;
       all_lines = λ done. whole done ∙ ap lines_of h.ends.0;
       too_much = (λ five. absurd (not_five status ended five), λ many. absurd (h.ends.1 many));
@@ -41,6 +42,7 @@ ReadsInput-fault view status before after transcript fault h none ended from to 
     record {
       read = h.read;
       taken = h.taken;
+      within = h.within;
       first_lines = subst P (sym none) (lines_of h.read, refl);
       all_lines = λ done. absurd (not_zero ended done);
       too_much = both;

@@ -71,11 +71,19 @@ work_fits true ended current table key op values is = record {
   not_txn = (λ h. absurd (cc), λ h. absurd (let e : Some current ≡ None = h.0 in cc));
   in_txn = (λ h. absurd (cc), λ h. absurd (let e : Work table key op ≡ Begin = h.1 in cc));
   full = (λ h. ((current, refl, eqb-true _ _ is), tt), λ h. refl);
+  begun = (λ h. absurd (cc), λ h. absurd (let e : Some current ≡ None = h.0 in cc));
+  done = λ reply h. absurd (cc);
+  committed = λ h. absurd (cc);
+  aborted = λ cause h. absurd (cc);
 }
 work_fits false ended current table key op values is = record {
   not_txn = (λ h. absurd (cc), λ h. absurd (let e : Some current ≡ None = h.0 in cc));
   in_txn = (λ h. absurd (cc), λ h. absurd (let e : Work table key op ≡ Begin = h.1 in cc));
   full = (λ h. absurd (cc), λ h. absurd (not_full h.0));
+  begun = (λ h. absurd (cc), λ h. absurd (let e : Some current ≡ None = h.0 in cc));
+  done = λ reply h. ((current, refl, tt), tt);
+  committed = λ h. absurd (cc);
+  aborted = λ cause h. absurd (cc);
 }
   where
     not_full : InTransaction (record { ended = ended; current = Some current }) IsFull → ⊥
@@ -90,27 +98,47 @@ FitsTurn-turn ended None Begin values asked = record {
   not_txn = (λ h. absurd (cc), λ h. absurd (h.1 refl));
   in_txn = (λ h. absurd (cc), λ h. absurd (let e : None ≡ Some h.0.0 = h.0.1 in cc));
   full = (λ h. absurd (cc), λ h. absurd (let e : None ≡ Some h.0.0 = h.0.1 in cc));
+  begun = (λ h. (refl, refl), λ h. refl);
+  done = λ reply h. absurd (cc);
+  committed = λ h. absurd (cc);
+  aborted = λ cause h. absurd (cc);
 }
 FitsTurn-turn ended None (Work table key op) values asked = record {
   not_txn = (λ h. (refl, λ is. cc), λ h. refl);
   in_txn = (λ h. absurd (cc), λ h. absurd (let e : None ≡ Some h.0.0 = h.0.1 in cc));
   full = (λ h. absurd (cc), λ h. absurd (let e : None ≡ Some h.0.0 = h.0.1 in cc));
+  begun = (λ h. absurd (cc), λ h. absurd (let e : Work table key op ≡ Begin = h.1 in cc));
+  done = λ reply h. absurd (cc);
+  committed = λ h. absurd (cc);
+  aborted = λ cause h. absurd (cc);
 }
 FitsTurn-turn ended None Commit values asked = record {
   not_txn = (λ h. (refl, λ is. cc), λ h. refl);
   in_txn = (λ h. absurd (cc), λ h. absurd (let e : None ≡ Some h.0.0 = h.0.1 in cc));
   full = (λ h. absurd (cc), λ h. absurd h.1);
+  begun = (λ h. absurd (cc), λ h. absurd (let e : Commit ≡ Begin = h.1 in cc));
+  done = λ reply h. absurd (cc);
+  committed = λ h. absurd (cc);
+  aborted = λ cause h. absurd (cc);
 }
 FitsTurn-turn ended None Abort values asked = absurd asked
 FitsTurn-turn ended (Some current) Begin values asked = record {
   not_txn = (λ h. absurd (cc), λ h. absurd (let e : Some current ≡ None = h.0 in cc));
   in_txn = (λ h. ((current, refl, tt), refl), λ h. refl);
   full = (λ h. absurd (cc), λ h. absurd h.1);
+  begun = (λ h. absurd (cc), λ h. absurd (let e : Some current ≡ None = h.0 in cc));
+  done = λ reply h. absurd (cc);
+  committed = λ h. absurd (cc);
+  aborted = λ cause h. absurd (cc);
 }
 FitsTurn-turn ended (Some current) (Work table key op) values asked = work_fits (nat_eq (length (operations current.commands)) 64) ended current table key op values refl
 FitsTurn-turn ended (Some current) Commit values asked = record {
   not_txn = (λ h. absurd (cc), λ h. absurd (let e : Some current ≡ None = h.0 in cc));
   in_txn = (λ h. absurd (cc), λ h. absurd (let e : Commit ≡ Begin = h.1 in cc));
   full = (λ h. absurd (cc), λ h. absurd h.1);
+  begun = (λ h. absurd (cc), λ h. absurd (let e : Some current ≡ None = h.0 in cc));
+  done = λ reply h. absurd (cc);
+  committed = λ h. ((current, refl, tt), refl);
+  aborted = λ cause h. absurd (cc);
 }
 FitsTurn-turn ended (Some current) Abort values asked = absurd asked

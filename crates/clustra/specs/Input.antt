@@ -1,5 +1,5 @@
 -- What a run reads, and its limits.
-use Rattle.std.specs.Prelude.{◌≡◌, ℕ, ◌<◌, ◌⊎◌, List, ◌++◌, length, Option, Result, Ok, Err}
+use Rattle.std.specs.Prelude.{◌≡◌, ℕ, ◌<◌, ◌≤◌, ◌⊎◌, List, ◌++◌, length, Option, Result, Ok, Err}
 use Rattle.cl_io.specs.Told.{prepend_told}
 use Rattle.cl_serial.specs.Bytes.{whole_lines}
 use Rattle.clustra.specs.declared.input.InputFault.{InputFault}
@@ -20,6 +20,8 @@ EndsReading view (Err NoMemory) read = IsTooMuch read → ⊥
 pub record Reads {V : Type 0} (view : V → List ℕ) (before after : Option (List ℕ)) (result : Result V InputFault) : Type 0 where
   pub read : List ℕ
   pub taken : before ≡ prepend_told read after
+  -- no further than one byte past the limit
+  pub within : length read ≤ 25700001
   pub ends : EndsReading view result read
 
 -- the piece was added, or there is too much with it, or no room for it

@@ -6,11 +6,12 @@ use Rattle.cl_types.specs.declared.operations.Command.TheVariants.{Commit}
 use Rattle.cl_types.specs.declared.operations.TxnId.{TxnId}
 use Rattle.cl_types.specs.declared.answers.Outcome.{Outcome}
 use Rattle.cl_types.specs.declared.answers.Outcome.TheVariants.{Committed}
-use Rattle.cl_serial.specs.Transcript.{Entry, questions, answers}
+use Rattle.cl_serial.specs.Transcript.{Entry, questions, answers, faulty_lines, refusals}
 use Rattle.cl_serial.specs.Exchanges.{Exchange, outcome_of}
 use Rattle.cl_serial.specs.Transactions.{Transaction, session_of, is_end}
 use Rattle.cl_types.specs.Places.{Place}
 use Rattle.cl_serial.specs.PlainMap.{Values, Operation, operations, no_values, after_operations, RepliesAgree}
+use Rattle.clustra.specs.Run.{NeverAborts}
 use Rattle.cl_serial.specs.Serial.{StandsAt, IsIn, CommittedForMembers, AnswersFollow, AnswersFitTurns, RefusalsTrue, EveryLineAnswered}
 
 -- the names of the first transactions of session 1
@@ -80,5 +81,7 @@ pub record Served (transcript : List Entry) (history : List TxnId) (values : Val
   pub for_members : CommittedForMembers transcript history
   pub follow : AnswersFollow transcript
   pub fit_turns : AnswersFitTurns transcript
-  pub refusals : RefusalsTrue transcript
+  pub refused : RefusalsTrue transcript
+  pub refused_once : faulty_lines transcript ≡ refusals transcript
+  pub unaborted : NeverAborts transcript
   pub every_line : EveryLineAnswered transcript

@@ -1,7 +1,14 @@
 -- What a run of the server is: what it read, fed and wrote, and how it ended.
-use Rattle.std.specs.Prelude.{◌≡◌, ℕ, ◌⊎◌, ◌↔◌, List, [], ◌∷◌, take, codes, Option}
+use Rattle.std.specs.Prelude.{◌≡◌, ℕ, ◌≤◌, ◌⊎◌, ◌↔◌, List, [], ◌∷◌, length, take, codes, Option}
 use Rattle.cl_io.specs.Told.{prepend_told, append_told}
-use Rattle.cl_serial.specs.Transcript.{Entry, fed_lines}
+use Rattle.cl_types.specs.declared.operations.TxnId.{TxnId}
+use Rattle.cl_types.specs.declared.answers.AbortCause.{AbortCause}
+use Rattle.cl_types.specs.declared.answers.Outcome.TheVariants.{Aborted}
+use Rattle.cl_lines.specs.declared.out.Out.TheVariants.{Answer}
+use Rattle.cl_serial.specs.Transcript.{Entry, written, fed_lines}
+use Rattle.cl_serial.specs.Transactions.{session_of, commands_in}
+use Rattle.cl_serial.specs.PlainMap.{Values, operations, no_values, after_operations, RepliesAgree}
+use Rattle.cl_serial.specs.Serial.{StandsAt, operations_of}
 use Rattle.cl_serial.specs.Bytes.{lines_of, FeedsFirstLines}
 use Rattle.clustra.specs.Input.{IsTooMuch}
 
@@ -14,12 +21,27 @@ pub record ReadsInput (status : ℕ) (before after : Option (List ℕ)) (transcr
   -- the bytes that were read
   pub read : List ℕ
   pub taken : before ≡ prepend_told read after
+  -- no further than one byte past the limit
+  pub within : length read ≤ 25700001
   -- the lines that were fed are the first lines of these bytes
   pub first_lines : FeedsFirstLines transcript read
   -- and all of them where the run is done
   pub all_lines : status ≡ 0 → fed_lines transcript ≡ lines_of read
   -- the run is stopped for its input exactly where it is too much
   pub too_much : (status ≡ 5) ↔ IsTooMuch read
+
+-- the map after the history: its members' operations done one after another from the empty map
+abbrev pub values_after : List Entry → List TxnId → Values
+values_after transcript history = after_operations no_values (operations_of transcript history)
+
+-- the operations of the transaction that a session is still in have the replies that this map gives
+abbrev pub OpenRepliesAgree : List Entry → List TxnId → Type 0
+OpenRepliesAgree transcript history = (session : ℕ) →
+    RepliesAgree (values_after transcript history) (operations (commands_in (session_of session transcript).current))
+
+-- no transaction is aborted
+abbrev pub NeverAborts : List Entry → Type 0
+NeverAborts transcript = (session place : ℕ) (cause : AbortCause) → StandsAt transcript place (written (Answer session (Aborted cause))) → ⊥
 
 -- what was written is the first part of the full text
 pub record WritesText (before after : Option (List ℕ)) (text : List ℕ) : Type 0 where

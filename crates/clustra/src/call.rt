@@ -5,7 +5,7 @@ ghost use Rattle.cl_io.specs.Faults.{Rose};
 ghost use Rattle.cl_io.specs.Told.{IsAtEnd};
 ghost use Rattle.cl_serial.specs.Transcript.{transcript_of, full_text};
 ghost use Rattle.cl_serial.specs.Serial.{Serializable, EveryLineAnswered};
-ghost use Rattle.clustra.specs.Run.{AreServe, ReadsInput, WritesText, WritesAll, IsEndStatus};
+ghost use Rattle.clustra.specs.Run.{AreServe, ReadsInput, OpenRepliesAgree, NeverAborts, WritesText, WritesAll, IsEndStatus};
 
 use crate::ended::{Ended, USAGE};
 use crate::serving::serve;
@@ -45,6 +45,10 @@ pub fn clustra<R: Threads + Wait + Sync, S: Source, K: Sink, G: Gate + Sync>(
     // The kept history explains the kept transcript, one transaction after another.
     ensures serializable { IfSome result.kept (λ kept. Serializable (transcript_of kept.transcript) (entries kept.history)) }
 
+    // A transaction that has not ended replies on the map after the history, and none is aborted.
+    ensures open_replies { IfSome result.kept (λ kept. OpenRepliesAgree (transcript_of kept.transcript) (entries kept.history)) }
+    ensures unaborted { IfSome result.kept (λ kept. NeverAborts (transcript_of kept.transcript)) }
+
     // The transcript is of the lines that were read, and its text is what was written.
     ensures read { IfSome result.kept (λ kept.
         ReadsInput result.status (S.left source.old) (S.left source.new) (transcript_of kept.transcript)) }
@@ -52,6 +56,7 @@ pub fn clustra<R: Threads + Wait + Sync, S: Source, K: Sink, G: Gate + Sync>(
         WritesText (K.written sink.old) (K.written sink.new) (full_text (transcript_of kept.transcript))) }
     ensures all { IfSome result.kept (λ kept. (result.status ≡ 0) ⊎ ((result.status ≡ 3) ⊎ (result.status ≡ 5))
         → WritesAll (K.written sink.old) (K.written sink.new) (full_text (transcript_of kept.transcript))) }
+    ensures unwritten { (result.status ≡ 3) ⊎ (result.status ≡ 5) → K.written sink.new ≡ K.written sink.old }
 
     // Each status has its cause.
     ensures end { result.status ≡ 0 → IsAtEnd (S.left source.new) }

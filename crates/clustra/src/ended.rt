@@ -8,8 +8,7 @@ pub struct Kept {
     pub history: History,
 }
 
-/// How a run ended. `kept` is `None` at status 2, and at status 6 where memory was wanting before
-/// anything could be kept.
+/// How a run ended. `kept` is `None` at status 2 alone.
 #[derive(Debug, Drop)]
 pub struct Ended {
     pub status: u8,

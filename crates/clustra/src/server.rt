@@ -8,6 +8,7 @@ ghost use Rattle.cl_serial.specs.Transcript.{transcript_of, fed, written};
 ghost use Rattle.cl_types.specs.Places.{Place};
 ghost use Rattle.cl_serial.specs.PlainMapModel.{value_at};
 ghost use Rattle.cl_serial.specs.Serial.{Serializable, EveryLineAnswered};
+ghost use Rattle.clustra.specs.Run.{OpenRepliesAgree, NeverAborts};
 ghost use Rattle.clustra.specs.Turn.{turn_outcome, turn_count, turn_begun, turn_values, turn_history, IsAsked};
 ghost use Rattle.clustra.specs.Server.{IsServing, IsServingWith, Unchanged};
 
@@ -189,6 +190,8 @@ impl Server {
     pub(crate) fn into_kept(self) -> Kept
         requires { IsServing self }
         ensures serializable { Serializable (transcript_of result.transcript) (entries result.history) }
+        ensures open_replies { OpenRepliesAgree (transcript_of result.transcript) (entries result.history) }
+        ensures unaborted { NeverAborts (transcript_of result.transcript) }
         ensures answered { EveryLineAnswered (transcript_of result.transcript) }
         ensures transcript { result.transcript ≡ self.transcript }
     {

@@ -7,7 +7,7 @@ ghost use Rattle.cl_serial.specs.Transcript.{transcript_of, fed_lines, full_text
 ghost use Rattle.cl_serial.specs.Bytes.{lines_of, FeedsFirstLines};
 ghost use Rattle.cl_serial.specs.Serial.{Serializable, EveryLineAnswered};
 ghost use Rattle.clustra.specs.Server.{IsServing};
-ghost use Rattle.clustra.specs.Run.{ReadsInput, WritesText, WritesAll, IsEndStatus};
+ghost use Rattle.clustra.specs.Run.{ReadsInput, OpenRepliesAgree, NeverAborts, WritesText, WritesAll, IsEndStatus};
 
 use crate::ended::{DONE, Kept, NO_MEMORY, READ_FAULT, TOO_MUCH_INPUT, WRITE_FAULT};
 use crate::feeding::feed_lines;
@@ -83,6 +83,7 @@ fn run<S: Source, K: Sink>(alloc: Global, server: &mut Server, source: &mut S, s
     ensures written { WritesText (K.written sink.old) (K.written sink.new) (full_text (transcript_of server.new.transcript)) }
     ensures all { (result ≡ 0) ⊎ ((result ≡ 3) ⊎ (result ≡ 5))
         → WritesAll (K.written sink.old) (K.written sink.new) (full_text (transcript_of server.new.transcript)) }
+    ensures unwritten { (result ≡ 3) ⊎ (result ≡ 5) → K.written sink.new ≡ K.written sink.old }
     ensures end { result ≡ 0 → IsAtEnd (S.left source.new) }
     ensures read_fault { result ≡ 3 → Rose (S.faults source.old) (S.faults source.new) }
     ensures write_fault { result ≡ 4 → Rose (K.faults sink.old) (K.faults sink.new) }
@@ -98,10 +99,13 @@ fn run<S: Source, K: Sink>(alloc: Global, server: &mut Server, source: &mut S, s
 /// Reads the whole source, answers its lines and writes the answers. At a fault of the source nothing is written.
 pub(crate) fn serve<S: Source, K: Sink>(alloc: Global, source: &mut S, sink: &mut K) -> (u8, Kept)
     ensures serializable { Serializable (transcript_of result.1.transcript) (entries result.1.history) }
+    ensures open_replies { OpenRepliesAgree (transcript_of result.1.transcript) (entries result.1.history) }
+    ensures unaborted { NeverAborts (transcript_of result.1.transcript) }
     ensures read { ReadsInput result.0 (S.left source.old) (S.left source.new) (transcript_of result.1.transcript) }
     ensures written { WritesText (K.written sink.old) (K.written sink.new) (full_text (transcript_of result.1.transcript)) }
     ensures all { (result.0 ≡ 0) ⊎ ((result.0 ≡ 3) ⊎ (result.0 ≡ 5))
         → WritesAll (K.written sink.old) (K.written sink.new) (full_text (transcript_of result.1.transcript)) }
+    ensures unwritten { (result.0 ≡ 3) ⊎ (result.0 ≡ 5) → K.written sink.new ≡ K.written sink.old }
     ensures end { result.0 ≡ 0 → IsAtEnd (S.left source.new) }
     ensures answered { EveryLineAnswered (transcript_of result.1.transcript) }
     ensures read_fault { result.0 ≡ 3 → Rose (S.faults source.old) (S.faults source.new) }

@@ -82,6 +82,12 @@ fn runs_end_as_they_must(rt: HostRuntime) -> Result<(), Fail> {
             status: 4,
             ..served(FIRST_TRANSACTION, b"")
         },
+        // The second call of the sink is the flush.
+        Case {
+            failing_writes: &[2],
+            status: 4,
+            ..served(FIRST_TRANSACTION, replies)
+        },
     ];
     for case in &cases {
         assert!(rt; ends_so(&rt, rt.alloc(), case)?);

@@ -1,6 +1,6 @@
 -- Each way in which reading ends.
 use Rattle.std.proofs.Common.{◌≡◌, ◌∙◌, ℕ, List, take, ap, sym, arith}
-use Rattle.std.proofs.lemmas.List.{take_at}
+use Rattle.std.proofs.lemmas.List.{take_at, length-take}
 use Rattle.cl_io.specs.Told.{prepend_told}
 use Rattle.clustra.proofs.Inputs.{ReadSoFar-start, ReadSoFar-more, Reads-refused, Reads-nothing}
 use Rattle.clustra.proofs.input.read_input.Goals as goal
@@ -36,3 +36,5 @@ returns-in-Err-clause-reads g c =
     ap (take c.in-Ok-read_piece.count) (c.deref.ensures.value ∙ take_at _ _ _ (c.read_piece.auto.buffer ∙ c.deref_mut.ensures.len)) in
     Reads-refused _ _ _ _ c.pieces.newlines c.pieces.bytes.items piece c.add_piece.new.bytes.items c.in-Err.fault c.pieces.invariant.so_far
     (c.in-Ok-read_piece.ensures.taken ∙ ap (λ list. prepend_told list (g.S.Source.left c.read_piece.new.source)) (sym filled)) c.in-Err.ensures.adds
+    (let size = length-take c.in-Ok-read_piece.count c.deref.result.now in
+    omega (arith, size, c.in-Ok-read_piece.ensures.within, c.pieces.invariant.few_bytes))
