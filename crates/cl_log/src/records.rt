@@ -1,8 +1,7 @@
 //! The records of a log.
 ghost use Rattle.std.specs.Prelude.{◌≡◌, IfOk};
-ghost use Rattle.std.specs.Option.{option_copied};
 
-use cl_types::{Key, Mode, NoMemory, TableName, TxnId, Value};
+use cl_types::{Key, Mode, NoMemory, TableName, TxnId, Value, copy_value};
 use std::alloc::Global;
 
 /// What a compensation does to its record.
@@ -37,23 +36,13 @@ pub enum LogRec {
     Decide(TxnId),
 }
 
-// Another image of the same bytes.
-pub(crate) fn copy_image(image: &Option<Value>, alloc: Global) -> Result<Option<Value>, NoMemory>
-    ensures { IfOk result (λ copied. copied ≡ image.now) }
-{
-    match image {
-        Some(value) => Ok(Some(value.copy(alloc)?)),
-        None => Ok(None),
-    }
-}
-
 impl Form {
     /// Another form of the same content.
     pub fn copy(&self, alloc: Global) -> Result<Form, NoMemory>
         ensures { IfOk result (λ copied. copied ≡ self.now) }
     {
         match self {
-            Form::Image(image) => Ok(Form::Image(copy_image(image, alloc)?)),
+            Form::Image(image) => Ok(Form::Image(copy_value(alloc, image.as_ref())?)),
             Form::Amount(amount) => Ok(Form::Amount(*amount)),
         }
     }
@@ -73,8 +62,8 @@ impl LogRec {
                 table.copy(),
                 key.copy(),
                 *before,
-                copy_image(old, alloc)?,
-                copy_image(new, alloc)?,
+                copy_value(alloc, old.as_ref())?,
+                copy_value(alloc, new.as_ref())?,
             ),
             LogRec::Add(txn, table, key, before, amount) => {
                 LogRec::Add(*txn, table.copy(), key.copy(), *before, *amount)

@@ -3,9 +3,8 @@ ghost use Rattle.std.specs.Prelude.{◌≡◌, true, IfOk};
 ghost use Rattle.cl_log.specs.Kind.{can_be_undone};
 ghost use Rattle.cl_log.specs.Rest.{undo_of};
 
-use crate::records::copy_image;
 use crate::{Form, LogRec};
-use cl_types::NoMemory;
+use cl_types::{NoMemory, copy_value};
 use std::alloc::Global;
 
 /// The compensation that undoes the write of a number, a Set or an Add, where `before` is the state
@@ -16,7 +15,7 @@ pub fn undo_of(alloc: Global, entry: &LogRec, number: u64, before: u64) -> Resul
 {
     match entry {
         LogRec::Set(txn, table, key, _, old, _) => {
-            let form = Form::Image(copy_image(old, alloc)?);
+            let form = Form::Image(copy_value(alloc, old.as_ref())?);
             Ok(LogRec::Comp(*txn, table.copy(), key.copy(), before, number, form))
         }
         LogRec::Add(txn, table, key, _, amount) => Ok(LogRec::Comp(

@@ -10,7 +10,7 @@ ghost use Rattle.cl_redo.specs.Write.{guarded, redone_of, after_write, CanWrite,
 use crate::Redone;
 use cl_log::{Form, LogRec};
 use cl_store::Store;
-use cl_types::{Key, NoMemory, Op, TableName, Value, apply_op, number_of};
+use cl_types::{Key, NoMemory, Op, TableName, Value, apply_op, augend_of, copy_value};
 use std::alloc::Global;
 
 // A write by guard: the value to be written, or nothing to be done.
@@ -20,31 +20,17 @@ pub(crate) enum Guarded {
     Skip,
 }
 
-// Another value of the same bytes, where there is one.
-fn copy_of(alloc: Global, value: Option<&Value>) -> Result<Option<Value>, NoMemory>
-    ensures { IfOk result (λ copied. copied ≡ option_copied value.entry) }
-{
-    match value {
-        Some(value) => Ok(Some(value.copy(alloc)?)),
-        None => Ok(None),
-    }
-}
-
 // The number that the value is, less the amount. A value that is no number stays, and so does one
 // whose difference is outside 64 bits.
 fn difference(alloc: Global, value: Option<&Value>, amount: i64) -> Result<Option<Value>, NoMemory>
     ensures { IfOk result (λ difference. difference ≡ less amount (option_copied value.entry)) }
 {
-    let minuend = match value {
-        Some(value) => number_of(value),
-        None => Some(0),
-    };
-    let Some(number) = minuend else {
-        return copy_of(alloc, value);
+    let Some(number) = augend_of(value) else {
+        return copy_value(alloc, value);
     };
     match number.checked_sub(amount) {
         Some(difference) => Ok(Some(Value::of_number(alloc, difference)?)),
-        None => copy_of(alloc, value),
+        None => copy_value(alloc, value),
     }
 }
 
@@ -57,14 +43,14 @@ fn value_after(
     ensures { IfOk result (λ after. after ≡ value_after entry.now (option_copied value.entry)) }
 {
     match entry {
-        LogRec::Set(_, _, _, _, _, new) => copy_of(alloc, new.as_ref()),
+        LogRec::Set(_, _, _, _, _, new) => copy_value(alloc, new.as_ref()),
         LogRec::Add(_, _, _, _, amount) => {
             let (_, sum) = apply_op(alloc, &Op::Add(*amount), value)?;
             Ok(sum)
         }
-        LogRec::Comp(_, _, _, _, _, Form::Image(image)) => copy_of(alloc, image.as_ref()),
+        LogRec::Comp(_, _, _, _, _, Form::Image(image)) => copy_value(alloc, image.as_ref()),
         LogRec::Comp(_, _, _, _, _, Form::Amount(amount)) => difference(alloc, value, *amount),
-        _ => copy_of(alloc, value),
+        _ => copy_value(alloc, value),
     }
 }
 

@@ -1,7 +1,7 @@
 //! The records of a store.
 ghost use Rattle.std.specs.Prelude.{◌≡◌, IfOk};
 
-use cl_types::{GrowingList, Key, NoMemory, TableName, Value};
+use cl_types::{GrowingList, Key, NoMemory, TableName, Value, copy_value};
 use std::alloc::Global;
 
 /// A record: its place, its state number (at least 1) and its value, absent where the record is dead.
@@ -21,15 +21,11 @@ impl Item {
     pub(crate) fn copy(&self, alloc: Global) -> Result<Item, NoMemory>
         ensures { IfOk result (λ item. item ≡ self.now) }
     {
-        let value = match &self.value {
-            Some(value) => Some(value.copy(alloc)?),
-            None => None,
-        };
         Ok(Item {
             table: self.table.copy(),
             key: self.key.copy(),
             number: self.number,
-            value,
+            value: copy_value(alloc, self.value.as_ref())?,
         })
     }
 }

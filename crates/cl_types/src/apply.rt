@@ -3,18 +3,8 @@ ghost use Rattle.std.specs.Prelude.{◌≡◌, IfOk};
 ghost use Rattle.std.specs.Option.{option_copied};
 ghost use Rattle.cl_types.specs.Plain.{plain_reply, plain_value, augend};
 
-use crate::{NoMemory, Op, Reply, Value, number_of};
+use crate::{NoMemory, Op, Reply, Value, copy_value, number_of};
 use std::alloc::Global;
-
-// Another value of the same bytes, where there is one.
-fn copy_of(alloc: Global, value: Option<&Value>) -> Result<Option<Value>, NoMemory>
-    ensures { IfOk result (λ copied. copied ≡ option_copied value.entry) }
-{
-    match value {
-        Some(value) => Ok(Some(value.copy(alloc)?)),
-        None => Ok(None),
-    }
-}
 
 // The reply of a read.
 fn reply_of_read(alloc: Global, value: Option<&Value>) -> Result<Reply, NoMemory>
@@ -36,8 +26,9 @@ fn reply_of_delete(value: Option<&Value>) -> Reply
     }
 }
 
-// The number that an addition begins with, or `None` where the value is no number.
-fn augend_of(old: Option<&Value>) -> Option<i64>
+/// The number that an addition or a subtraction begins with: 0 where there is no value, and `None`
+/// where the value is no number.
+pub fn augend_of(old: Option<&Value>) -> Option<i64>
     ensures { result ≡ augend (option_copied old.entry) }
 {
     match old {
@@ -52,11 +43,11 @@ fn add(alloc: Global, amount: i64, old: Option<&Value>) -> Result<(Reply, Option
     ensures value { IfOk result (λ done. done.1 ≡ plain_value (Op.Add amount) (option_copied old.entry)) }
 {
     let Some(number) = augend_of(old) else {
-        return Ok((Reply::NotNumber, copy_of(alloc, old)?));
+        return Ok((Reply::NotNumber, copy_value(alloc, old)?));
     };
     match number.checked_add(amount) {
         Some(sum) => Ok((Reply::Sum(sum), Some(Value::of_number(alloc, sum)?))),
-        None => Ok((Reply::OutOfRange, copy_of(alloc, old)?)),
+        None => Ok((Reply::OutOfRange, copy_value(alloc, old)?)),
     }
 }
 
@@ -70,7 +61,7 @@ pub fn apply_op(
     ensures value { IfOk result (λ done. done.1 ≡ plain_value op.now (option_copied old.entry)) }
 {
     match op {
-        Op::Get => Ok((reply_of_read(alloc, old)?, copy_of(alloc, old)?)),
+        Op::Get => Ok((reply_of_read(alloc, old)?, copy_value(alloc, old)?)),
         Op::Put(value) => Ok((Reply::Stored, Some(value.copy(alloc)?))),
         Op::Del => Ok((reply_of_delete(old), None)),
         Op::Add(amount) => add(alloc, *amount, old),

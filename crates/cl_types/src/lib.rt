@@ -16,7 +16,7 @@ mod value;
 
 pub use answers::{AbortCause, Answer, DumpFault, Outcome, Refused, RepairFault, Reply, StopFault};
 pub use append_only_list::AppendOnlyList;
-pub use apply::apply_op;
+pub use apply::{apply_op, augend_of};
 pub use decimal::{
     natural_and_text_law, natural_of, number_and_text_law, number_of, number_of_text,
 };
@@ -25,4 +25,4 @@ pub use names::{KEY_MAX, Key, TABLE_NAME_MAX, TableName};
 pub use no_memory::NoMemory;
 pub use operations::{Command, Mode, Op, TxnId};
 pub use placement::{fragment, hash, is_node_count, placement_law, vnode_of};
-pub use value::{VALUE_MAX, Value};
+pub use value::{VALUE_MAX, Value, copy_value};

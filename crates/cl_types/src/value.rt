@@ -1,5 +1,6 @@
 //! The values of records.
 ghost use Rattle.std.specs.Prelude.{◌≡◌, Some, None, IfOk, if◌then◌else◌, nat_eq};
+ghost use Rattle.std.specs.Option.{option_copied};
 ghost use Rattle.std.specs.List.{list_all};
 ghost use Rattle.std.specs.Char.{is_ascii_graphic};
 ghost use Rattle.std.specs.Cmp.{partial_equiv_from_equiv};
@@ -87,5 +88,15 @@ impl Value {
         ensures { result.now ≡ self.now }
     {
         self.bytes.as_slice()
+    }
+}
+
+/// Another value of the same bytes, where there is one.
+pub fn copy_value(alloc: Global, value: Option<&Value>) -> Result<Option<Value>, NoMemory>
+    ensures { IfOk result (λ copied. copied ≡ option_copied value.entry) }
+{
+    match value {
+        Some(value) => Ok(Some(value.copy(alloc)?)),
+        None => Ok(None),
     }
 }
