@@ -65,6 +65,17 @@ fn a_sink_in_memory_fails_where_its_maker_says(rt: HostRuntime) -> Result<(), Fa
     Ok(())
 }
 
+// Where an allocation fails, so does the write, and the sink takes the next one.
+#[test]
+fn a_want_of_memory_is_a_fault_of_the_sink(rt: HostRuntime) {
+    let mut sink = MemSink::new(rt.alloc(), Vec::new(rt.alloc()));
+    if write_all(&mut sink, b"ab").is_err() {
+        assert!(rt; sink.bytes().is_empty());
+        assert!(rt; write_all(&mut sink, b"ab").is_ok());
+    }
+    assert_eq!(rt; sink.bytes(), b"ab".as_slice());
+}
+
 // A reader that gives one byte, fails once, gives another byte, and is at its end.
 #[derive(Drop)]
 struct Stumbling(u8);

@@ -49,6 +49,16 @@ fn each_form_is_read(rt: HostRuntime) {
     assert!(rt; matches!(&put, Ok(line) if asks(line, b"subs", b"4670", Some(b"cell=12,~!"))));
 }
 
+// Where an allocation fails, the line has no fault, and is read then.
+#[test]
+fn a_want_of_memory_is_no_fault_of_the_line(rt: HostRuntime) {
+    let mut put = read_line(rt.alloc(), b"1 PUT t k v");
+    if put == Err(Unread::NoMemory) {
+        put = read_line(rt.alloc(), b"1 PUT t k v");
+    }
+    assert!(rt; matches!(&put, Ok(line) if asks(line, b"t", b"k", Some(b"v"))));
+}
+
 #[test]
 fn other_lines_have_no_form(rt: HostRuntime) {
     let lines: [&[u8]; 24] = [

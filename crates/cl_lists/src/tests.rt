@@ -40,6 +40,20 @@ fn items_that_own_memory_come_back(rt: HostRuntime) -> Result<(), Fail> {
     Ok(())
 }
 
+#[test]
+fn a_want_of_memory_leaves_the_arena(rt: HostRuntime) -> Result<(), Fail> {
+    let mut arena = Arena::new(rt.alloc());
+    arena.add_lists(Side::X, 1)?;
+    arena.add_lists(Side::Y, 1)?;
+    arena.reserve(1)?;
+    let kept = arena.push_back(0, 0, 10);
+    assert!(rt; arena.reserve(usize::MAX).is_err());
+    assert_eq!(rt; arena.first(Side::X, 0), Some(kept));
+    assert_eq!(rt; arena.last(Side::Y, 0), Some(kept));
+    assert_eq!(rt; *arena.get(kept), 10);
+    Ok(())
+}
+
 fn moves<T: Send + Drop>(_value: T) {}
 
 #[test]

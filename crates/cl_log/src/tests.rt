@@ -133,3 +133,12 @@ fn a_rollback_ends_where_nothing_is_left(rt: HostRuntime) -> Result<(), Fail> {
     assert!(rt; log.unended(rt.alloc())?.is_empty());
     Ok(())
 }
+
+#[test]
+fn a_want_of_memory_leaves_the_log(rt: HostRuntime) -> Result<(), Fail> {
+    let mut log = example(rt.alloc())?;
+    assert!(rt; log.reserve(usize::MAX).is_err());
+    assert_eq!(rt; log.last(), 8);
+    assert!(rt; is_record(log.at(4), &LogRec::Decide(DECIDED)));
+    Ok(())
+}

@@ -168,6 +168,17 @@ fn a_dead_record_stays_with_its_number(rt: HostRuntime) -> Result<(), Fail> {
     Ok(())
 }
 
+#[test]
+fn a_want_of_memory_leaves_the_store(rt: HostRuntime) -> Result<(), Fail> {
+    let (t, b) = (table(b"t")?, key(b"b")?);
+    let mut store = example(&rt, rt.alloc())?;
+    assert!(rt; store.reserve(usize::MAX).is_err());
+    assert_eq!(rt; store.scan(None, 4)?.len(), 2);
+    assert_eq!(rt; store.get(&t, &b).0, 8);
+    assert!(rt; is_value(store.get(&t, &b).1, b"7"));
+    Ok(())
+}
+
 fn moves<T: Send + Drop>(_value: T) {}
 
 #[test]

@@ -63,6 +63,8 @@ fn names_and_values_are_copied(rt: HostRuntime) -> Result<(), Fail> {
     assert_eq!(rt; key.bytes(), b"4790123456".as_slice());
     assert_eq!(rt; cell.bytes(), b"cell.0412".as_slice());
     assert_ne!(rt; cell, value(alloc, b"cell.0413")?);
+    assert_eq!(rt; copy_value(alloc, Some(&cell))?, Some(cell));
+    assert_eq!(rt; copy_value(alloc, None)?, None);
     Ok(())
 }
 
@@ -176,5 +178,22 @@ fn lists_keep_their_items(rt: HostRuntime) -> Result<(), Fail> {
     assert_eq!(rt; log.as_slice(), [9].as_slice());
     assert_eq!(rt; log.at(0).copied(), Some(9));
     assert_eq!(rt; log.len(), 1);
+    Ok(())
+}
+
+// More items than any memory has.
+const TOO_MANY: usize = usize::MAX;
+
+#[test]
+fn a_refused_growth_leaves_the_list(rt: HostRuntime) -> Result<(), Fail> {
+    let mut list: GrowingList<u16> = GrowingList::new(rt.alloc());
+    list.push(5)?;
+    assert!(rt; list.reserve(TOO_MANY).is_err());
+    assert_eq!(rt; list.as_slice(), [5].as_slice());
+
+    let mut log: AppendOnlyList<u16> = AppendOnlyList::new(rt.alloc());
+    log.push(9)?;
+    assert!(rt; log.reserve(TOO_MANY).is_err());
+    assert_eq!(rt; log.as_slice(), [9].as_slice());
     Ok(())
 }
