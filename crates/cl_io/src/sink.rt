@@ -1,6 +1,6 @@
 ghost use Rattle.std.specs.Prelude.{◌≡◌, ℕ, ◌<◌, ◌≤◌, Option, List, length, take, IfOk, OnErr};
 ghost use Rattle.cl_io.specs.Faults.{Rose};
-ghost use Rattle.cl_io.specs.Told.{append_told};
+ghost use Rattle.std.specs.Io.KnownBytes.{append_known};
 
 use crate::Failed;
 
@@ -16,7 +16,7 @@ pub trait Sink {
     /// a piece that is not empty is a fault as well.
     fn write(&mut self, piece: &[u8]) -> Result<usize, Failed>
         ensures within { IfOk result (λ n. n ≤ length piece.now) }
-        ensures taken { IfOk result (λ n. written self.new ≡ append_told (written self.old) (take n piece.now)) }
+        ensures taken { IfOk result (λ n. written self.new ≡ append_known (written self.old) (take n piece.now)) }
         ensures none { IfOk result (λ n. n ≡ 0 → 0 < length piece.now → Rose (faults self.old) (faults self.new)) }
         ensures kept { OnErr result (written self.new ≡ written self.old) }
         ensures fault { OnErr result (Rose (faults self.old) (faults self.new)) }

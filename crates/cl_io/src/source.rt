@@ -1,6 +1,6 @@
 ghost use Rattle.std.specs.Prelude.{◌≡◌, ℕ, ◌<◌, ◌≤◌, Option, List, length, take, IfOk, OnErr};
 ghost use Rattle.cl_io.specs.Faults.{Rose};
-ghost use Rattle.cl_io.specs.Told.{prepend_told, IsAtEnd};
+ghost use Rattle.std.specs.Io.KnownBytes.{prepend_known, IsAtEnd};
 
 use crate::Failed;
 
@@ -18,7 +18,7 @@ pub trait Source {
     fn read(&mut self, buf: &mut [u8]) -> Result<usize, Failed>
         ensures within { IfOk result (λ n. n ≤ length buf.old) }
         ensures size { length buf.new ≡ length buf.old }
-        ensures given { IfOk result (λ n. left self.old ≡ prepend_told (take n buf.new) (left self.new)) }
+        ensures given { IfOk result (λ n. left self.old ≡ prepend_known (take n buf.new) (left self.new)) }
         ensures end { IfOk result (λ n. n ≡ 0 → 0 < length buf.old → IsAtEnd (left self.new)) }
         ensures kept { OnErr result (left self.new ≡ left self.old) }
         ensures fault { OnErr result (Rose (faults self.old) (faults self.new)) }

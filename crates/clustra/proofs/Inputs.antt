@@ -2,8 +2,9 @@
 use Rattle.std.proofs.Common.{◌≡◌, ℕ, ◌+◌, ◌-◌, ◌<◌, ◌≤◌, inl, inr, ◌==◌, not, List, [], ◌++◌, length, get_or, Option, Ok, Err, refl, sym, ◌∙◌, ap, subst, arith}
 use Rattle.std.proofs.lemmas.Bool.{cases_lt}
 use Rattle.std.proofs.lemmas.List.{length-append}
-use Rattle.cl_io.specs.Told.{prepend_told}
-use Rattle.cl_io.proofs.ToldLemmas.{prepend_told-nil, prepend_told-more}
+use Rattle.std.specs.Io.KnownBytes.{prepend_known}
+use Rattle.std.proofs.KnownBytes.{prepend_known-nil}
+use Rattle.cl_io.proofs.ToldLemmas.{prepend_known-more}
 use Rattle.cl_serial.specs.Bytes.{whole_lines}
 use Rattle.cl_serial.proofs.LineLemmas.{newlines, one_if, length-whole_lines_append}
 use Rattle.clustra.specs.Input.{IsTooMuch, Reads, EndsReading, AddsPiece}
@@ -27,7 +28,7 @@ lines_with count bytes piece counted some =
 
 -- these bytes were read, and they are within the limits
 pub record ReadSoFar (start now : Option (List ℕ)) (count : ℕ) (bytes : List ℕ) : Type 0 where
-  pub taken : start ≡ prepend_told bytes now
+  pub taken : start ≡ prepend_known bytes now
   pub counted : count ≡ newlines bytes
   pub fits : IsTooMuch bytes → ⊥
 
@@ -35,23 +36,23 @@ pub ReadSoFar-start : (left : Option (List ℕ)) (bytes : List ℕ) → bytes �
 unfolding whole_lines
 ReadSoFar-start left bytes none =
     let P : List ℕ → Type 0 = λ list. ReadSoFar left left 0 list in
-    subst P (sym none) (record { taken = sym (prepend_told-nil left); counted = refl; fits = within [] (omega arith) (omega arith) })
+    subst P (sym none) (record { taken = sym (prepend_known-nil left); counted = refl; fits = within [] (omega arith) (omega arith) })
 
 -- one piece more
-pub ReadSoFar-more : (start now next : Option (List ℕ)) (count count' : ℕ) (bytes piece grown : List ℕ) (done : Unit {0}) → ReadSoFar start now count bytes → now ≡ prepend_told piece next →
+pub ReadSoFar-more : (start now next : Option (List ℕ)) (count count' : ℕ) (bytes piece grown : List ℕ) (done : Unit {0}) → ReadSoFar start now count bytes → now ≡ prepend_known piece next →
     AddsPiece bytes piece grown (Ok done) → count' ≡ newlines grown → ReadSoFar start next count' grown
 ReadSoFar-more start now next count count' bytes piece grown done h more adds counted = record {
-  taken = prepend_told-more start now next bytes piece h.taken more ∙ ap (λ list. prepend_told list next) (sym adds.0);
+  taken = prepend_known-more start now next bytes piece h.taken more ∙ ap (λ list. prepend_known list next) (sym adds.0);
   counted = counted;
   fits = let P : List ℕ → Type 0 = λ list. IsTooMuch list → ⊥ in subst P (sym adds.0) adds.1;
 }
 
 -- the piece could not be added
-pub Reads-refused : {V : Type 0} (view : V → List ℕ) (start now next : Option (List ℕ)) (count : ℕ) (bytes piece grown : List ℕ) (fault : InputFault) → ReadSoFar start now count bytes → now ≡ prepend_told piece next →
+pub Reads-refused : {V : Type 0} (view : V → List ℕ) (start now next : Option (List ℕ)) (count : ℕ) (bytes piece grown : List ℕ) (fault : InputFault) → ReadSoFar start now count bytes → now ≡ prepend_known piece next →
     AddsPiece bytes piece grown (Err fault) → length bytes + length piece ≤ 25700001 → Reads view start next (Err fault)
 Reads-refused view start now next count bytes piece grown fault h more adds short = record {
   read = bytes ++ piece;
-  taken = prepend_told-more start now next bytes piece h.taken more;
+  taken = prepend_known-more start now next bytes piece h.taken more;
   within = let e = length-append bytes piece in omega (arith, e, short);
   ends = by_fault fault adds;
 }
@@ -71,17 +72,17 @@ not_read bytes piece grown NoMemory P adds is = absurd (cc)
 pub Reads-fault : {V : Type 0} (view : V → List ℕ) (start now next : Option (List ℕ)) (count : ℕ) (bytes : List ℕ) → ReadSoFar start now count bytes → next ≡ now → Reads view start next (Err Read)
 Reads-fault view start now next count bytes h same = record {
   read = bytes;
-  taken = h.taken ∙ ap (prepend_told bytes) (sym same);
+  taken = h.taken ∙ ap (prepend_known bytes) (sym same);
   within = omega (arith, few_bytes_of bytes h.fits);
   ends = h.fits;
 }
 
 -- the end
-pub Reads-end : {V : Type 0} (view : V → List ℕ) (start now next : Option (List ℕ)) (count : ℕ) (bytes none : List ℕ) (all : V) → ReadSoFar start now count bytes → now ≡ prepend_told none next → none ≡ [] →
+pub Reads-end : {V : Type 0} (view : V → List ℕ) (start now next : Option (List ℕ)) (count : ℕ) (bytes none : List ℕ) (all : V) → ReadSoFar start now count bytes → now ≡ prepend_known none next → none ≡ [] →
     view all ≡ bytes → Reads view start next (Ok all)
 Reads-end view start now next count bytes none all h more is_none viewed = record {
   read = bytes;
-  taken = h.taken ∙ ap (prepend_told bytes) (more ∙ ap (λ list. prepend_told list next) is_none ∙ prepend_told-nil next);
+  taken = h.taken ∙ ap (prepend_known bytes) (more ∙ ap (λ list. prepend_known list next) is_none ∙ prepend_known-nil next);
   within = omega (arith, few_bytes_of bytes h.fits);
   ends = (viewed, h.fits);
 }
@@ -91,7 +92,7 @@ pub Reads-nothing : {V : Type 0} (view : V → List ℕ) (start : Option (List �
 unfolding whole_lines
 Reads-nothing view start = record {
   read = [];
-  taken = sym (prepend_told-nil start);
+  taken = sym (prepend_known-nil start);
   within = omega arith;
   ends = within [] (omega arith) (omega arith);
 }

@@ -1,6 +1,6 @@
 -- What a run reads, and its limits.
 use Rattle.std.specs.Prelude.{◌≡◌, ℕ, ◌<◌, ◌≤◌, ◌⊎◌, List, ◌++◌, length, Option, Result, Ok, Err}
-use Rattle.cl_io.specs.Told.{prepend_told}
+use Rattle.std.specs.Io.KnownBytes.{prepend_known}
 use Rattle.cl_serial.specs.Bytes.{whole_lines}
 use Rattle.clustra.specs.declared.input.InputFault.{InputFault}
 use Rattle.clustra.specs.declared.input.InputFault.TheVariants.{Read, TooMuch, NoMemory}
@@ -19,7 +19,7 @@ EndsReading view (Err NoMemory) read = IsTooMuch read → ⊥
 -- these bytes were read, and reading ended so
 pub record Reads {V : Type 0} (view : V → List ℕ) (before after : Option (List ℕ)) (result : Result V InputFault) : Type 0 where
   pub read : List ℕ
-  pub taken : before ≡ prepend_told read after
+  pub taken : before ≡ prepend_known read after
   -- no further than one byte past the limit
   pub within : length read ≤ 25700001
   pub ends : EndsReading view result read

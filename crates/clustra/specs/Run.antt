@@ -1,6 +1,6 @@
 -- What a run of the server is: what it read, fed and wrote, and how it ended.
 use Rattle.std.specs.Prelude.{◌≡◌, ℕ, ◌≤◌, ◌⊎◌, ◌↔◌, List, [], ◌∷◌, length, take, codes, Option}
-use Rattle.cl_io.specs.Told.{prepend_told, append_told}
+use Rattle.std.specs.Io.KnownBytes.{prepend_known, append_known}
 use Rattle.cl_types.specs.declared.operations.TxnId.{TxnId}
 use Rattle.cl_types.specs.declared.answers.AbortCause.{AbortCause}
 use Rattle.cl_types.specs.declared.answers.Outcome.TheVariants.{Aborted}
@@ -20,7 +20,7 @@ AreServe words = words ≡ codes "serve" ∷ []
 pub record ReadsInput (status : ℕ) (before after : Option (List ℕ)) (transcript : List Entry) : Type 0 where
   -- the bytes that were read
   pub read : List ℕ
-  pub taken : before ≡ prepend_told read after
+  pub taken : before ≡ prepend_known read after
   -- no further than one byte past the limit
   pub within : length read ≤ 25700001
   -- the lines that were fed are the first lines of these bytes
@@ -46,11 +46,11 @@ NeverAborts transcript = (session place : ℕ) (cause : AbortCause) → StandsAt
 -- what was written is the first part of the full text
 pub record WritesText (before after : Option (List ℕ)) (text : List ℕ) : Type 0 where
   pub count : ℕ
-  pub appended : after ≡ append_told before (take count text)
+  pub appended : after ≡ append_known before (take count text)
 
 -- all of the full text was written
 abbrev pub WritesAll : Option (List ℕ) → Option (List ℕ) → List ℕ → Type 0
-WritesAll before after text = after ≡ append_told before text
+WritesAll before after text = after ≡ append_known before text
 
 -- the status of a run that began: done, a read that failed, a write that failed, too much input, want of memory
 abbrev pub IsEndStatus : ℕ → Type 0

@@ -2,7 +2,7 @@
 ghost use Rattle.std.specs.Prelude.{◌≡◌, ◌≤◌, ◌⊎◌, ◌↔◌, true, false, map, None, IsSome, IfSome, string_bytes};
 ghost use Rattle.cl_types.specs.AppendOnlyList.{entries};
 ghost use Rattle.cl_io.specs.Faults.{Rose};
-ghost use Rattle.cl_io.specs.Told.{IsAtEnd};
+ghost use Rattle.std.specs.Io.KnownBytes.{IsAtEnd};
 ghost use Rattle.cl_serial.specs.Transcript.{transcript_of, full_text};
 ghost use Rattle.cl_serial.specs.Serial.{Serializable, EveryLineAnswered};
 ghost use Rattle.clustra.specs.Run.{AreServe, ReadsInput, OpenRepliesAgree, NeverAborts, WritesText, WritesAll, IsEndStatus};

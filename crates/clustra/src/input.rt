@@ -1,7 +1,7 @@
 //! Reading the whole input, within its limits.
 ghost use Rattle.std.specs.Prelude.{◌≡◌, ℕ, ◌+◌, ◌-◌, ◌<◌, ◌≤◌, ◌==◌, ◌^◌, not, if◌then◌else◌, length, take, count_by, slice_index, IfOk, OnOk, OnErr, IfErr, Err, vec_len};
 ghost use Rattle.cl_io.specs.Faults.{Rose};
-ghost use Rattle.cl_io.specs.Told.{prepend_told, IsAtEnd};
+ghost use Rattle.std.specs.Io.KnownBytes.{prepend_known, IsAtEnd};
 ghost use Rattle.clustra.specs.Input.{Reads, AddsPiece};
 
 use cl_io::{Failed, Source};
@@ -31,7 +31,7 @@ fn read_piece<S: Source>(source: &mut S, buffer: &mut [u8], room: usize) -> Resu
     requires some { 0 < room }
     requires within { room ≤ length buffer.old }
     ensures within { IfOk result (λ count. count ≤ room) }
-    ensures taken { IfOk result (λ count. S.left source.old ≡ prepend_told (take count buffer.new) (S.left source.new)) }
+    ensures taken { IfOk result (λ count. S.left source.old ≡ prepend_known (take count buffer.new) (S.left source.new)) }
     ensures end { IfOk result (λ count. count ≡ 0 → IsAtEnd (S.left source.new)) }
     ensures kept { OnErr result (S.left source.new ≡ S.left source.old) }
     ensures fault { OnErr result (Rose (S.faults source.old) (S.faults source.new)) }

@@ -2,7 +2,7 @@
 ghost use Rattle.std.specs.Prelude.{◌≡◌, ◌≤◌, ◌⊎◌, [], OnOk};
 ghost use Rattle.cl_types.specs.AppendOnlyList.{entries};
 ghost use Rattle.cl_io.specs.Faults.{Rose};
-ghost use Rattle.cl_io.specs.Told.{IsAtEnd};
+ghost use Rattle.std.specs.Io.KnownBytes.{IsAtEnd};
 ghost use Rattle.cl_serial.specs.Transcript.{transcript_of, fed_lines, full_text};
 ghost use Rattle.cl_serial.specs.Bytes.{lines_of, FeedsFirstLines};
 ghost use Rattle.cl_serial.specs.Serial.{Serializable, EveryLineAnswered};

@@ -1,5 +1,5 @@
 use Rattle.std.proofs.Common.{◌≡◌, ◌≤◌, ◌-◌, length, take}
-use Rattle.cl_io.specs.Told.{append_told}
+use Rattle.std.specs.Io.KnownBytes.{append_known}
 use Rattle.cl_io.proofs.writing.write_all.Given as goal
 
 -- what was done is written, and the count did not fall
@@ -7,7 +7,7 @@ abbrev pub invariant-loop-done : goal.invariant-loop-done
 invariant-loop-done g l =
     record {
       within : l.done ≤ length l.piece;
-      written : g.K.Sink.written l.sink ≡ append_told (g.K.Sink.written l.initial.sink) (take l.done l.piece);
+      written : g.K.Sink.written l.sink ≡ append_known (g.K.Sink.written l.initial.sink) (take l.done l.piece);
       counted : g.K.Sink.faults l.initial.sink ≤ g.K.Sink.faults l.sink;
     }
 

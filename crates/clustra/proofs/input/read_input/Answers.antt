@@ -1,7 +1,7 @@
 -- Each way in which reading ends.
 use Rattle.std.proofs.Common.{◌≡◌, ◌∙◌, ℕ, List, take, ap, sym, arith}
 use Rattle.std.proofs.lemmas.List.{take_at, length-take}
-use Rattle.cl_io.specs.Told.{prepend_told}
+use Rattle.std.specs.Io.KnownBytes.{prepend_known}
 use Rattle.clustra.proofs.Inputs.{ReadSoFar-start, ReadSoFar-more, Reads-refused, Reads-nothing}
 use Rattle.clustra.proofs.input.read_input.Goals as goal
 
@@ -23,7 +23,7 @@ pieces-preserved g c =
     ap (take c.in-Ok-read_piece.count) (c.deref.ensures.value ∙ take_at _ _ _ (c.read_piece.auto.buffer ∙ c.deref_mut.ensures.len)) in
     record {
       so_far = ReadSoFar-more _ _ _ c.pieces.newlines _ c.pieces.bytes.items piece _ c.in_default-add_piece.field-0 c.pieces.invariant.so_far
-          (c.in-Ok-read_piece.ensures.taken ∙ ap (λ list. prepend_told list (g.S.Source.left c.read_piece.new.source)) (sym filled)) c.in_default-add_piece.ensures.adds c.in_default-add_piece.ensures.counted;
+          (c.in-Ok-read_piece.ensures.taken ∙ ap (λ list. prepend_known list (g.S.Source.left c.read_piece.new.source)) (sym filled)) c.in_default-add_piece.ensures.adds c.in_default-add_piece.ensures.counted;
       counted = omega (arith, c.pieces.invariant.counted, c.read_piece.ensures.counted);
       few_bytes = c.in_default-add_piece.ensures.few;
       buffer_is = c.pieces.invariant.buffer_is;
@@ -35,6 +35,6 @@ returns-in-Err-clause-reads g c =
     let filled : piece ≡ take c.in-Ok-read_piece.count c.read_piece.new.buffer =
     ap (take c.in-Ok-read_piece.count) (c.deref.ensures.value ∙ take_at _ _ _ (c.read_piece.auto.buffer ∙ c.deref_mut.ensures.len)) in
     Reads-refused _ _ _ _ c.pieces.newlines c.pieces.bytes.items piece c.add_piece.new.bytes.items c.in-Err.fault c.pieces.invariant.so_far
-    (c.in-Ok-read_piece.ensures.taken ∙ ap (λ list. prepend_told list (g.S.Source.left c.read_piece.new.source)) (sym filled)) c.in-Err.ensures.adds
+    (c.in-Ok-read_piece.ensures.taken ∙ ap (λ list. prepend_known list (g.S.Source.left c.read_piece.new.source)) (sym filled)) c.in-Err.ensures.adds
     (let size = length-take c.in-Ok-read_piece.count c.deref.result.now in
     omega (arith, size, c.in-Ok-read_piece.ensures.within, c.pieces.invariant.few_bytes))
