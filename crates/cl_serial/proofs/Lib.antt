@@ -5,3 +5,4 @@ pub mod LineLemmas
 pub mod Places
 pub mod PlainMapLemmas
 pub mod Replayed
+pub mod SameSession

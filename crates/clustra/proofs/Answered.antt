@@ -19,39 +19,8 @@ use Rattle.cl_serial.proofs.Growth.{KeepsCommands-step, all_of}
 use Rattle.clustra.proofs.Turns.{exchange_at}
 use Rattle.clustra.proofs.Pairs.{with_pair, questions-with_pair, answers-with_pair, command_in-other, outcome_in-other, exchanges-answered, session_of-paired, session_after-push}
 use Rattle.std.proofs.lemmas.List.{append-nil, length-append}
-
--- where an entry of the longer transcript stands: before, or it is the line, or what was written for it
-pub data Standing (transcript : List Entry) (line out entry : Entry) (place : ℕ) : Type 0 where
-  before : StandsAt transcript place entry → Standing transcript line out entry place
-  the_line : place ≡ length transcript → entry ≡ line → Standing transcript line out entry place
-  the_answer : place ≡ length transcript + 1 → entry ≡ out → Standing transcript line out entry place
-
-pub standing : (transcript : List Entry) (number : ℕ) (text : List ℕ) (out : Out) (place : ℕ) (entry : Entry) → StandsAt (with_pair transcript number text out) place entry →
-    Standing transcript (fed number text) (written out) entry place
-standing transcript number text out place entry h =
-    elim (StandsAt-push (transcript ++ fed number text ∷ []) (written out) place entry h) [
-      | inl front ↦ elim (StandsAt-push transcript (fed number text) place entry front) [ inl old ↦ before old | inr line ↦ the_line line.0 line.1 ]
-      | inr last ↦ the_answer (last.0 ∙ length-append transcript (fed number text ∷ [])) last.1
-    ]
-
--- the line and what was written for it stand there
-pub line_stands : (transcript : List Entry) (number : ℕ) (text : List ℕ) (out : Out) → StandsAt (with_pair transcript number text out) (length transcript) (fed number text)
-line_stands transcript number text out = StandsAt-append_left (transcript ++ fed number text ∷ []) (written out ∷ []) (length transcript) (fed number text) (StandsAt-push_last transcript (fed number text))
-
-pub answer_stands : (transcript : List Entry) (number : ℕ) (text : List ℕ) (out : Out) → StandsAt (with_pair transcript number text out) (length transcript + 1) (written out)
-answer_stands transcript number text out =
-    let P : ℕ → Type 0 = λ n. StandsAt (with_pair transcript number text out) n (written out) in
-    subst P (length-append transcript (fed number text ∷ [])) (StandsAt-push_last (transcript ++ fed number text ∷ []) (written out))
-
-pub stands_before : (transcript : List Entry) (number : ℕ) (text : List ℕ) (out : Out) (place : ℕ) (entry : Entry) → StandsAt transcript place entry → StandsAt (with_pair transcript number text out) place entry
-stands_before transcript number text out place entry h =
-    StandsAt-append_left (transcript ++ fed number text ∷ []) (written out ∷ []) place entry (StandsAt-append_left transcript (fed number text ∷ []) place entry h)
-
--- the fault of the line that an entry feeds
-abbrev pub fault_in : Entry → Option LineFault
-fault_in (fed number text) = fault_of text
-fault_in (written out) = None
-fault_in quiet = None
+use Rattle.cl_serial.proofs.SameSession.{commands-same, follow-same, fit-same, answered-same}
+use Rattle.clustra.proofs.Standing.{Standing, before, the_line, the_answer, standing, fault_in, refusal-before, refusal-after}
 
 module _ (transcript : List Entry) (number : ℕ) (text : List ℕ) (command : Command) (outcome : Outcome) (reads : client_of text ≡ Some (1, command)) where
   -- the longer transcript
@@ -87,14 +56,6 @@ module _ (transcript : List Entry) (number : ℕ) (text : List ℕ) (command : C
       let a = ap length answers-first ∙ length-append (answers 1 transcript) ((outcome, length transcript + 1) ∷ []) in
       omega (arith, q, a, paired)
 
-  pub exchanges-others : (session : ℕ) → session ≢ 1 → exchanges session longer ≡ exchanges session transcript
-  exchanges-others session other =
-      ap (λ asked. pair_up asked (answers session longer)) (questions-others session other)
-      ∙ ap (pair_up (questions session transcript)) (answers-others session other)
-
-  pub session_of-others : (session : ℕ) → session ≢ 1 → session_of session longer ≡ session_of session transcript
-  session_of-others session other = ap (λ list. session_after (in_turn list)) (exchanges-others session other)
-
   pub session_of-first : length (questions 1 transcript) ≡ length (answers 1 transcript) → session_of 1 longer ≡ session_step (session_of 1 transcript) one
   session_of-first paired =
       session_of-paired 1 longer (paired-longer paired)
@@ -109,18 +70,12 @@ module _ (transcript : List Entry) (number : ℕ) (text : List ℕ) (command : C
       let P : Session → Type 0 = λ session. IsIn (commands_in (numbered (all_of session) n)) exchange in
       subst P (sym (session_of-first paired)) (KeepsCommands-step (session_of 1 transcript) one n exchange h)
 
-  kept_there : (session : ℕ) → session ≢ 1 → (n : ℕ) (exchange : Exchange) →
-      IsIn (commands_in (numbered (all_of (session_of session transcript)) n)) exchange → IsIn (commands_in (numbered (all_of (session_of session longer)) n)) exchange
-  kept_there session other n exchange h =
-      let P : Session → Type 0 = λ state. IsIn (commands_in (numbered (all_of state) n)) exchange in
-      subst P (sym (session_of-others session other)) h
-
   kept_anywhere : length (questions 1 transcript) ≡ length (answers 1 transcript) → (session : ℕ) → (session ≡ 1) ⊎ (session ≡ 1 → ⊥) → (n : ℕ) (exchange : Exchange) →
       IsIn (commands_in (numbered (all_of (session_of session transcript)) n)) exchange → IsIn (commands_in (numbered (all_of (session_of session longer)) n)) exchange
   kept_anywhere paired session (inl is_first) n exchange h =
       let P : ℕ → Type 0 = λ s. IsIn (commands_in (numbered (all_of (session_of s transcript)) n)) exchange → IsIn (commands_in (numbered (all_of (session_of s longer)) n)) exchange in
       subst P (sym is_first) (kept_here paired n exchange) h
-  kept_anywhere paired session (inr other) n exchange h = kept_there session other n exchange h
+  kept_anywhere paired session (inr other) n exchange h = commands-same longer transcript session (questions-others session other) (answers-others session other) n exchange h
 
   pub IsAnswered-longer : length (questions 1 transcript) ≡ length (answers 1 transcript) → (name : TxnId) (given : Outcome) (place : ℕ) → IsAnswered transcript name given place → IsAnswered longer name given place
   IsAnswered-longer paired name given place h =
@@ -147,10 +102,7 @@ module _ (transcript : List Entry) (number : ℕ) (text : List ℕ) (command : C
       subst R (sym is_first) (λ at.
       subst Q (sym questions-first) (follow_first follow paired k given place
       (StandsAt-push (answers 1 transcript) (outcome, length transcript + 1) k (given, place) (subst P answers-first at)))) h
-  follow_any follow paired session (inr other) k given place h =
-      let P : List (Outcome × ℕ) → Type 0 = λ list. StandsAt list k (given, place) in
-      let Q : List (Command × ℕ) → Type 0 = λ list. (asked : Command) × (line : ℕ) × StandsAt list k (asked, line) × (line < place) in
-      subst Q (sym (questions-others session other)) (follow session k given place (subst P (answers-others session other) h))
+  follow_any follow paired session (inr other) k given place h = follow-same longer transcript session (questions-others session other) (answers-others session other) follow k given place h
 
   pub AnswersFollow-longer : AnswersFollow transcript → length (questions 1 transcript) ≡ length (answers 1 transcript) → AnswersFollow longer
   AnswersFollow-longer follow paired session k given place h = follow_any follow paired session (cases_eq session 1) k given place h
@@ -182,9 +134,7 @@ module _ (transcript : List Entry) (number : ℕ) (text : List ℕ) (command : C
       let R : ℕ → Type 0 = λ s. P (exchanges s longer) in
       subst R (sym is_first) (subst P (sym (exchanges-answered transcript number text command outcome reads paired))
       (λ at. fit_first fit paired fits k exchange given (StandsAt-push (exchanges 1 transcript) one k exchange at) is)) h
-  fit_any fit paired fits session (inr other) k exchange given h is =
-      let P : List Exchange → Type 0 = λ list. StandsAt list k exchange → FitsTurn (session_after (take k list)) exchange.command given in
-      subst P (sym (exchanges-others session other)) (λ at. fit session k exchange given at is) h
+  fit_any fit paired fits session (inr other) k exchange given h is = fit-same longer transcript session (questions-others session other) (answers-others session other) fit k exchange given h is
 
   pub AnswersFitTurns-longer : AnswersFitTurns transcript → length (questions 1 transcript) ≡ length (answers 1 transcript) → FitsTurn (session_of 1 transcript) command outcome → AnswersFitTurns longer
   AnswersFitTurns-longer fit paired fits session k exchange given h is = fit_any fit paired fits session (cases_eq session 1) k exchange given h is
@@ -192,9 +142,7 @@ module _ (transcript : List Entry) (number : ℕ) (text : List ℕ) (command : C
   -- no line more is refused
   refused_before : RefusalsTrue transcript → (place line : ℕ) (fault : LineFault) → Standing transcript (fed number text) (written (Answer 1 outcome)) (written (BadLine line fault)) place →
       (earlier : ℕ) × (refused : List ℕ) × (earlier < place) × StandsAt longer earlier (fed line refused) × (fault_of refused ≡ Some fault)
-  refused_before true_before place line fault (before at) =
-      let found = true_before place line fault at in
-      (found.0, found.1, found.2, stands_before transcript number text (Answer 1 outcome) found.0 (fed line found.1) found.3, found.4)
+  refused_before true_before place line fault (before at) = refusal-before transcript number text (Answer 1 outcome) true_before place line fault at
   refused_before true_before place line fault (the_line at is) = absurd (cc)
   refused_before true_before place line fault (the_answer at is) = absurd (cc)
 
@@ -213,16 +161,12 @@ module _ (transcript : List Entry) (number : ℕ) (text : List ℕ) (command : C
       let R : ℕ → Type 0 = λ s. StandsAt (exchanges s longer) k exchange in
       answered_first every k exchange (StandsAt-push (exchanges 1 transcript) one k exchange
       (subst P (exchanges-answered transcript number text command outcome reads paired) (subst R is_first h)))
-  answered_any every paired session (inr other) k exchange h =
-      let P : List Exchange → Type 0 = λ list. StandsAt list k exchange in
-      every.answered session k exchange (subst P (exchanges-others session other) h)
+  answered_any every paired session (inr other) k exchange h = answered-same longer transcript session (questions-others session other) (answers-others session other) every k exchange h
 
   refused_after : EveryLineAnswered transcript → fault_of text ≡ None → (place line : ℕ) (refused : List ℕ) (fault : LineFault) →
       Standing transcript (fed number text) (written (Answer 1 outcome)) (fed line refused) place → fault_of refused ≡ Some fault →
       (after : ℕ) × (place < after) × StandsAt longer after (written (BadLine line fault))
-  refused_after every well place line refused fault (before at) is =
-      let found = every.refused place line refused fault at is in
-      (found.0, found.1, stands_before transcript number text (Answer 1 outcome) found.0 (written (BadLine line fault)) found.2)
+  refused_after every well place line refused fault (before at) is = refusal-after transcript number text (Answer 1 outcome) every place line refused fault at is
   refused_after every well place line refused fault (the_line at same) is =
       let P : Entry → Type 0 = λ entry. fault_in entry ≡ Some fault in
       let both : None ≡ Some fault = sym well ∙ subst P same is in absurd (cc)

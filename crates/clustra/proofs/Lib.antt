@@ -2,6 +2,7 @@ pub mod Orders
 pub mod Turns
 pub mod Steps
 pub mod Pairs
+pub mod Standing
 pub mod Answered
 pub mod Unaborted
 pub mod Members

@@ -20,7 +20,8 @@ use Rattle.clustra.specs.Turn.{turn_outcome, turn_history}
 use Rattle.clustra.specs.Kept.{Kept, count_in}
 use Rattle.clustra.proofs.Turns.{exchange_at}
 use Rattle.clustra.proofs.Steps.{next}
-use Rattle.clustra.proofs.Answered.{Standing, before, the_line, the_answer, standing, session_of-first, IsAnswered-longer}
+use Rattle.clustra.proofs.Standing.{Standing, before, the_line, the_answer, standing}
+use Rattle.clustra.proofs.Answered.{session_of-first, IsAnswered-longer}
 use Rattle.clustra.proofs.Pairs.{with_pair}
 
 -- a command that is answered COMMITTED is COMMIT in a transaction

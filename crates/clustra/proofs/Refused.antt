@@ -18,7 +18,8 @@ use Rattle.clustra.specs.Kept.{Kept, Served}
 use Rattle.clustra.proofs.Turns.{Kept-idle}
 use Rattle.clustra.proofs.Pairs.{with_pair, length-with_pair, questions-with_pair, answers-with_pair, faulty_lines-with_pair, refusals-with_pair}
 use Rattle.clustra.proofs.Unaborted.{NeverAborts-refused}
-use Rattle.clustra.proofs.Answered.{Standing, before, the_line, the_answer, standing, line_stands, answer_stands, stands_before, fault_in}
+use Rattle.cl_serial.proofs.SameSession.{session_of-same, commands-same, follow-same, fit-same, answered-same}
+use Rattle.clustra.proofs.Standing.{Standing, before, the_line, the_answer, standing, line_stands, answer_stands, fault_in, refusal-before, refusal-after}
 
 module _ (transcript : List Entry) (number : ℕ) (text : List ℕ) (fault : LineFault) (reads : client_of text ≡ None) (faulty : fault_of text ≡ Some fault) where
   abbrev longer : List Entry
@@ -31,39 +32,18 @@ module _ (transcript : List Entry) (number : ℕ) (text : List ℕ) (fault : Lin
   same_answers : (session : ℕ) → answers session longer ≡ answers session transcript
   same_answers session = answers-with_pair session transcript number text (BadLine number fault) ∙ append-nil (answers session transcript)
 
-  same_exchanges : (session : ℕ) → exchanges session longer ≡ exchanges session transcript
-  same_exchanges session = ap (λ asked. pair_up asked (answers session longer)) (same_questions session) ∙ ap (pair_up (questions session transcript)) (same_answers session)
-
-  same_session : (session : ℕ) → session_of session longer ≡ session_of session transcript
-  same_session session = ap (λ list. session_after (in_turn list)) (same_exchanges session)
-
   members_before : (history : List TxnId) → CommittedForMembers transcript history → (session place : ℕ) →
       Standing transcript (fed number text) (written (BadLine number fault)) (written (Answer session Committed)) place →
       (n : ℕ) × IsIn history (record { session = session; number = n }) × IsAnswered longer (record { session = session; number = n }) Committed place
   members_before history members session place (before at) =
       let found = members session place at in
-      let P : Session → Type 0 = λ state. IsIn (commands_in (numbered (all_of state) found.0)) found.2.0 in
-      (found.0, found.1, (found.2.0, subst P (sym (same_session session)) found.2.1, found.2.2))
+      (found.0, found.1, (found.2.0, commands-same longer transcript session (same_questions session) (same_answers session) found.0 found.2.0 found.2.1, found.2.2))
   members_before history members session place (the_line at is) = absurd (cc)
   members_before history members session place (the_answer at is) = absurd (cc)
 
-  follow_longer : AnswersFollow transcript → AnswersFollow longer
-  follow_longer follow session k outcome place h =
-      let P : List (Outcome × ℕ) → Type 0 = λ list. StandsAt list k (outcome, place) in
-      let found = follow session k outcome place (subst P (same_answers session) h) in
-      let Q : List (Rattle.cl_types.specs.declared.operations.Command.Command × ℕ) → Type 0 = λ list. StandsAt list k (found.0, found.1) in
-      (found.0, found.1, subst Q (sym (same_questions session)) found.2, found.3)
-
-  fit_longer : AnswersFitTurns transcript → AnswersFitTurns longer
-  fit_longer fit session k exchange given h is =
-      let P : List Exchange → Type 0 = λ list. StandsAt list k exchange → FitsTurn (session_after (take k list)) exchange.command given in
-      subst P (sym (same_exchanges session)) (λ at. fit session k exchange given at is) h
-
   refused_before : RefusalsTrue transcript → (place line : ℕ) (given : LineFault) → Standing transcript (fed number text) (written (BadLine number fault)) (written (BadLine line given)) place →
       (earlier : ℕ) × (refused : List ℕ) × (earlier < place) × StandsAt longer earlier (fed line refused) × (fault_of refused ≡ Some given)
-  refused_before true_before place line given (before at) =
-      let found = true_before place line given at in
-      (found.0, found.1, found.2, stands_before transcript number text (BadLine number fault) found.0 (fed line found.1) found.3, found.4)
+  refused_before true_before place line given (before at) = refusal-before transcript number text (BadLine number fault) true_before place line given at
   refused_before true_before place line given (the_line at is) = absurd (cc)
   refused_before true_before place line given (the_answer at is) =
       let same_line : number ≡ line = cc in
@@ -74,9 +54,7 @@ module _ (transcript : List Entry) (number : ℕ) (text : List ℕ) (fault : Lin
   refused_after : EveryLineAnswered transcript → (place line : ℕ) (refused : List ℕ) (given : LineFault) →
       Standing transcript (fed number text) (written (BadLine number fault)) (fed line refused) place → fault_of refused ≡ Some given →
       (after : ℕ) × (place < after) × StandsAt longer after (written (BadLine line given))
-  refused_after every place line refused given (before at) is =
-      let found = every.refused place line refused given at is in
-      (found.0, found.1, stands_before transcript number text (BadLine number fault) found.0 (written (BadLine line given)) found.2)
+  refused_after every place line refused given (before at) is = refusal-after transcript number text (BadLine number fault) every place line refused given at is
   refused_after every place line refused given (the_line at same) is =
       let same_line : number ≡ line = cc in
       let both : Some fault ≡ Some given = sym faulty ∙ ap fault_in (sym same) ∙ is in
@@ -92,16 +70,15 @@ module _ (transcript : List Entry) (number : ℕ) (text : List ℕ) (fault : Lin
   Served-refused_line history values after begun count h same =
       let P : Session → Type 0 = λ session. Kept session.ended session.current (length longer) history after begun count in
       let Q : ℕ → Type 0 = λ size. Kept (session_of 1 transcript).ended (session_of 1 transcript).current size history after begun count in
-      let R : List Exchange → Type 0 = λ list. (k : ℕ) (exchange : Exchange) → StandsAt list k exchange → IsSome (outcome_of exchange) in
       record {
         paired = ap length (same_questions 1) ∙ h.paired ∙ sym (ap length (same_answers 1));
         unasked = λ session other. same_questions session ∙ h.unasked session other;
         unanswered = λ session other. same_answers session ∙ h.unanswered session other;
-        kept = subst P (sym (same_session 1)) (subst Q (sym (length-with_pair transcript number text (BadLine number fault)))
+        kept = subst P (sym (session_of-same longer transcript 1 (same_questions 1) (same_answers 1))) (subst Q (sym (length-with_pair transcript number text (BadLine number fault)))
             (Kept-idle (session_of 1 transcript).ended (session_of 1 transcript).current (length transcript) history values after begun count same h.kept));
         for_members = λ session place at. members_before history h.for_members session place (standing transcript number text (BadLine number fault) place (written (Answer session Committed)) at);
-        follow = follow_longer h.follow;
-        fit_turns = fit_longer h.fit_turns;
+        follow = λ session. follow-same longer transcript session (same_questions session) (same_answers session) h.follow;
+        fit_turns = λ session. fit-same longer transcript session (same_questions session) (same_answers session) h.fit_turns;
         refused_once = faulty_lines-with_pair transcript number text (BadLine number fault)
             ∙ ap (λ has. faulty_lines transcript ++ numbered_fault number has) faulty
             ∙ ap (λ list. list ++ (number, fault) ∷ []) h.refused_once
@@ -109,7 +86,7 @@ module _ (transcript : List Entry) (number : ℕ) (text : List ℕ) (fault : Lin
         unaborted = NeverAborts-refused transcript number text fault h.unaborted;
         refused = λ place line given at. refused_before h.refused place line given (standing transcript number text (BadLine number fault) place (written (BadLine line given)) at);
         every_line = record {
-          answered = λ session. subst R (sym (same_exchanges session)) (h.every_line.answered session);
+          answered = λ session. answered-same longer transcript session (same_questions session) (same_answers session) h.every_line;
           refused = λ place line refused given at is. refused_after h.every_line place line refused given (standing transcript number text (BadLine number fault) place (fed line refused) at) is;
         };
       }

@@ -14,7 +14,7 @@ use Rattle.cl_serial.specs.PlainMap.{Values}
 use Rattle.clustra.specs.Turn.{turn_outcome}
 use Rattle.clustra.specs.Run.{NeverAborts}
 use Rattle.clustra.proofs.Pairs.{with_pair}
-use Rattle.clustra.proofs.Answered.{Standing, before, the_line, the_answer, standing}
+use Rattle.clustra.proofs.Standing.{Standing, before, the_line, the_answer, standing}
 
 -- an operation is done, or its transaction is full
 work_goes_on : (is_full : Bool) (reply : Reply) (cause : AbortCause) → (if is_full then Full else Done reply) ≡ Aborted cause → ⊥
