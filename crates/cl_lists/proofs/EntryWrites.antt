@@ -1,6 +1,8 @@
 -- What a write to one slot changes.
-use Rattle.std.proofs.Common.{◌≡◌, ℕ, zero, suc, ◌<◌, true, false, List, [], ◌∷◌, map, length, get_or, set, None, IsSome, refl, sym, ap, ◌∙◌, arith, inl, inr}
+use Rattle.std.proofs.Common.{◌≡◌, ℕ, zero, suc, ◌<◌, true, false, List, [], ◌∷◌, map, length, get_or, set, Some, None, IsSome, refl, sym, ap, ◌∙◌, arith, inl, inr}
 use Rattle.std.proofs.lemmas.List.{map-set, get_or-map, get_or_past, length-map}
+use Rattle.std.specs.Prelude.{slice_get}
+use Rattle.std.proofs.lemmas.Option.{slice_get-get_or, slice_get-map, get_or_from_slice_get}
 use Rattle.std.proofs.lemmas.Bool.{cases_lt}
 use Rattle.cl_lists.specs.declared.slots.Link.{Link}
 use Rattle.cl_lists.specs.declared.slots.Side.{Side}
@@ -15,6 +17,10 @@ pub map-set_kept : {A B : Type 0} (f : A → B) (xs : List A) (i : ℕ) (d new :
 map-set_kept f [] i d new kept = refl
 map-set_kept f (x ∷ xs) zero d new kept = ap (λ y. y ∷ map f xs) kept
 map-set_kept f (x ∷ xs) (suc i) d new kept = ap (λ ys. f x ∷ ys) (map-set_kept f xs i d new kept)
+
+-- what f says of an element, as it is read
+pub read_as : {A B : Type 0} (f : A → B) (xs : List A) (i : ℕ) (x : A) (past : B) → slice_get xs i ≡ Some x → get_or (map f xs) i past ≡ f x
+read_as f xs i x past h = get_or_from_slice_get (map f xs) i (f x) past (slice_get-map f xs i ∙ rw h refl)
 
 module _ {T : Type 0} where
   link_of-with_link : (side : Side) (entry : Entry T) (link : Link) → link_of side (with_link side entry link) ≡ link
@@ -65,11 +71,11 @@ module _ {T : Type 0} where
 
   -- ---- what a slot has, as it is read
 
-  pub contents_read : {A : Type 0} (f : Content T → A) (slots : List (Entry T)) (index slot : ℕ) (d : Entry T) (past : A) → index ≡ slot → slot < length slots → get_or (map f (contents slots)) slot past ≡ f (get_or slots index d).content
-  contents_read f slots index slot d past same inside =
-      get_or-map f (contents slots) slot d.content past (rw length-map inside)
-      ∙ ap f (get_or-map (λ e. e.content) slots slot d d.content inside)
-      ∙ ap (λ i. f (get_or slots i d).content) (sym same)
+  pub content_read : (slots : List (Entry T)) (index slot : ℕ) (d : Entry T) → index ≡ slot → slot < length slots → slice_get (contents slots) slot ≡ Some (get_or slots index d).content
+  content_read slots index slot d same inside =
+      slice_get-get_or (contents slots) slot d.content (rw length-map inside)
+      ∙ ap Some (get_or-map (λ e. e.content) slots slot d d.content inside)
+      ∙ ap (λ i. Some (get_or slots i d).content) (sym same)
 
   pub inside-used : (slots : List (Entry T)) (slot : ℕ) → get_or (used slots) slot false ≡ true → slot < length slots
   inside-used slots slot in_use = elim (cases_lt slot (length slots)) [

@@ -1,11 +1,21 @@
 //! What the slots have: an item, or the next free slot.
-ghost use Rattle.std.specs.Prelude.{◌≡◌, [], ◌∷◌, ◌++◌, OnOk, OnErr, IsSome, Some, None, map, true, false, slice_index_or, slice_set};
+ghost use Rattle.std.specs.Prelude.{◌≡◌, ◌<◌, [], ◌∷◌, ◌++◌, length, OnOk, OnErr, IsSome, Some, None, map, true, false, slice_get, slice_index_or, slice_set};
 ghost use Rattle.cl_lists.specs.Entries.{contents, links_on, frees, used, item_of, SameLinks};
 ghost use Rattle.cl_lists.specs.Links.{no_link};
 
 use crate::slots::{Content, Entry, Side, Slot};
 use cl_types::NoMemory;
 use std::mem;
+
+// Puts a content into a slot, and gives the one that was there.
+fn exchange<T>(slots: &mut [Entry<T>], slot: Slot, content: Content<T>) -> Content<T>
+    requires { slot < length slots.old }
+    ensures had { slice_get (contents slots.old) slot ≡ Some result }
+    ensures contents { contents slots.new ≡ slice_set (contents slots.old) slot content }
+    ensures links { SameLinks slots.old slots.new }
+{
+    mem::replace(&mut slots[slot.index].content, content)
+}
 
 // Puts an item into a free slot. The result is the next free slot, which the slot named.
 pub(crate) fn fill<T>(slots: &mut [Entry<T>], slot: Slot, item: T) -> Option<Slot>
@@ -14,7 +24,7 @@ pub(crate) fn fill<T>(slots: &mut [Entry<T>], slot: Slot, item: T) -> Option<Slo
     ensures contents { contents slots.new ≡ slice_set (contents slots.old) slot (Content.Item item) }
     ensures links { SameLinks slots.old slots.new }
 {
-    match mem::replace(&mut slots[slot.index].content, Content::Item(item)) {
+    match exchange(slots, slot, Content::Item(item)) {
         Content::Free(next) => next,
         Content::Item(_) => unreachable!(),
     }
@@ -27,7 +37,7 @@ pub(crate) fn vacate<T>(slots: &mut [Entry<T>], slot: Slot, next: Option<Slot>) 
     ensures contents { contents slots.new ≡ slice_set (contents slots.old) slot (Content.Free next) }
     ensures links { SameLinks slots.old slots.new }
 {
-    match mem::replace(&mut slots[slot.index].content, Content::Free(next)) {
+    match exchange(slots, slot, Content::Free(next)) {
         Content::Item(item) => item,
         Content::Free(_) => unreachable!(),
     }

@@ -1,22 +1,15 @@
-use Rattle.std.proofs.Common.{None, false, arith, sym, ap, ◌∙◌}
-use Rattle.cl_lists.specs.Entries.{item_of, is_item}
-use Rattle.cl_lists.proofs.EntryWrites.{contents-set_content, SameLinks-set_content, contents_read, inside-used}
+use Rattle.std.proofs.Common.{None, false, arith, ap, ◌∙◌}
+use Rattle.cl_lists.specs.Entries.{contents, item_of, is_item}
+use Rattle.cl_lists.proofs.EntryWrites.{read_as, inside-used}
 use Rattle.cl_lists.proofs.contents.vacate.Goals as goal
+
+pub exchange-requires : goal.exchange-requires
+exchange-requires g c = inside-used c.args.slots.now c.args.slot c.requires
 
 pub unreachable-requires : goal.unreachable-requires
 unreachable-requires g c =
-    let read = contents_read is_item c.args.slots.now c.slot.inside.index c.args.slot c.index-slots-slot.result false c.slot.view_is (inside-used c.args.slots.now c.args.slot c.requires) in
-    grind (arith, read, c.requires, c.replace.ensures.value, c.in-Free.is)
+    let read = read_as is_item (contents c.args.slots.now) c.args.slot _ false c.exchange.ensures.had in
+    grind (arith, read, c.requires, c.in-Free.is)
 
 pub returns-clause-item : goal.returns-clause-item
-returns-clause-item g c =
-    contents_read item_of c.args.slots.now c.slot.inside.index c.args.slot c.index-slots-slot.result None c.slot.view_is (inside-used c.args.slots.now c.args.slot c.requires)
-    ∙ ap item_of (sym c.replace.ensures.value ∙ c.in-Item.is)
-
-pub returns-clause-contents : goal.returns-clause-contents
-returns-clause-contents g c =
-    contents-set_content c.args.slots.now c.slot.inside.index c.args.slot c.index-slots-slot.result c.replace.new.dest _ c.slot.view_is c.replace.ensures.after
-
-pub returns-clause-links : goal.returns-clause-links
-returns-clause-links g c =
-    SameLinks-set_content c.args.slots.now c.slot.inside.index c.args.slot c.index-slots-slot.result c.replace.new.dest _ c.slot.view_is c.replace.ensures.after
+returns-clause-item g c = read_as item_of (contents c.args.slots.now) c.args.slot _ None c.exchange.ensures.had ∙ ap item_of c.in-Item.is
