@@ -2,6 +2,7 @@
 use Rattle.std.proofs.Common.{◌≡◌, ℕ, ◌+◌, ◌*◌, ◌<◌, ◌≤◌, ◌==◌, Bool, false, ◌||◌, not, List, [], ◌∷◌, ◌++◌, length, Some, is_none, refl, sym, ap, ◌∙◌, arith}
 use Rattle.std.proofs.lemmas.Bool.{eq-eqb, ne_eqb, cond-true, cond-false, not-true, not_from_true, not_from_false}
 use Rattle.std.proofs.lemmas.List.{length_push}
+use Rattle.cl_types.proofs.PlacementLaws.{node_count-bounds}
 use Rattle.cl_roster.specs.declared.entry.RosterEntry.{RosterEntry}
 use Rattle.cl_roster.specs.declared.entry.RosterEntry.TheVariants.{Stopped, Repaired}
 use Rattle.cl_roster.specs.declared.roles.Roles.{Roles}
@@ -58,12 +59,14 @@ accounts-push : (nodes spares : ℕ) (entries : List RosterEntry) (entry : Roste
     IsLawfulEntry nodes spares entries entry → Accounts nodes entries → Accounts nodes (entries ++ entry ∷ [])
 accounts-push nodes spares entries (Stopped n) size lawful accounts =
     let admitted = IsAdmitted-from nodes spares entries n lawful in
+    let bounds = node_count-bounds nodes size.counted in
     let one_less = living_count-stopped entries n (omega arith) (not-true (has_stopped entries n) admitted.living) in
     let lone = passing-le (is_lone nodes (entries ++ Stopped n ∷ [])) 0 nodes in
     let longer = length_push entries (Stopped n) in
     record { few = omega arith }
 accounts-push nodes spares entries (Repaired w n) size lawful accounts =
     let same = living_count-repaired entries w n in
+    let bounds = node_count-bounds nodes size.counted in
     let one_less = lone_count-repaired nodes spares entries w n lawful in
     let longer = length_push entries (Repaired w n) in
     record { few = omega arith }
@@ -77,6 +80,7 @@ accounts-first nodes =
 pub length-lawful : (nodes spares : ℕ) (entries : List RosterEntry) → IsClusterSize nodes spares →
     IsLawfulRoster nodes spares entries → length entries ≤ 144
 length-lawful nodes spares entries size lawful =
+    let bounds = node_count-bounds nodes size.counted in
     let accounts : Accounts nodes entries =
     along nodes spares (Accounts nodes) (λ xs entry _ next before. accounts-push nodes spares xs entry size next before)
     (accounts-first nodes) entries lawful in

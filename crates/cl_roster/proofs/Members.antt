@@ -3,6 +3,7 @@ use Rattle.std.proofs.Common.{◌≡◌, ◌≢◌, ℕ, ◌+◌, ◌%◌, ◌<�
 use Rattle.std.proofs.lemmas.Bool.{or_cases, or_left, eqb-true, ne_eqb, cond_both, cases_lt}
 use Rattle.std.proofs.lemmas.Bool.Decides.{nat_tests}
 use Rattle.std.proofs.Math.Nat.{mod-eq_of_lt, mod_self}
+use Rattle.cl_types.proofs.PlacementLaws.{node_count-bounds}
 use Rattle.cl_roster.specs.declared.entry.RosterEntry.{RosterEntry}
 use Rattle.cl_roster.specs.declared.entry.RosterEntry.TheVariants.{Stopped, Repaired}
 use Rattle.cl_roster.specs.declared.roles.Roles.{Roles}
@@ -122,4 +123,4 @@ pub AreSoundMembers-lawful : (nodes spares : ℕ) (entries : List RosterEntry) (
 AreSoundMembers-lawful nodes spares entries v size below lawful =
     along nodes spares (λ xs. AreSoundMembers nodes spares xs (roles_after nodes xs v))
     (λ xs entry _ next sound. AreSoundMembers-push nodes spares xs entry v below next sound)
-    (sound-first nodes spares v size.at_least_two below) entries lawful
+    (sound-first nodes spares v (node_count-bounds nodes size.counted).0 below) entries lawful

@@ -2,6 +2,7 @@
 use Rattle.std.proofs.Common.{◌≡◌, ◌≢◌, ℕ, ◌+◌, ◌%◌, ◌<◌, ◌≤◌, ◌==◌, cond, List, [], ◌∷◌, ◌++◌, Option, Some, None, inl, inr, refl, sym, ap, ◌∙◌, subst, arith}
 use Rattle.std.proofs.lemmas.Bool.{eqb-true, cond_both, cases_lt}
 use Rattle.std.proofs.Math.Nat.{mod-eq_of_lt, mod_self}
+use Rattle.cl_types.proofs.PlacementLaws.{node_count-even, node_count-bounds}
 use Rattle.cl_roster.specs.declared.entry.RosterEntry.{RosterEntry}
 use Rattle.cl_roster.specs.declared.entry.RosterEntry.TheVariants.{Stopped, Repaired}
 use Rattle.cl_roster.specs.declared.roles.Roles.{Roles}
@@ -73,4 +74,4 @@ AreOnTwoSites-crossing nodes spares entries v size below =
     (λ xs entry keeps crosses.
     subst AreOnTwoSites (sym (roles_after-push nodes xs entry v))
     (two_sites-push nodes xs entry v crosses (keeps (EachFits-prefix (Crosses nodes) xs (entry ∷ []) crosses))))
-    [] entries (λ _. two_sites-first nodes v size.even size.at_least_two below)
+    [] entries (λ _. two_sites-first nodes v (node_count-even nodes size.counted) (node_count-bounds nodes size.counted).0 below)

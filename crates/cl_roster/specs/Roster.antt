@@ -3,15 +3,14 @@ use Rattle.std.specs.Prelude.{◌≡◌, ℕ, zero, suc, ◌+◌, ◌%◌, ◌<�
 use Rattle.std.specs.List.{list_any, find, range_with_len}
 use Rattle.cl_types.specs.declared.answers.StopFault.{StopFault}
 use Rattle.cl_types.specs.declared.answers.StopFault.TheVariants.{Unknown, Down, Last}
+use Rattle.cl_types.specs.Placement.{IsNodeCount}
 use Rattle.cl_roster.specs.declared.entry.RosterEntry.{RosterEntry}
 use Rattle.cl_roster.specs.declared.entry.RosterEntry.TheVariants.{Stopped, Repaired}
 use Rattle.cl_roster.specs.Roles.{roles_after, is_member, is_only_member}
 
 -- 2, 4, 6 or 8 nodes, and at most 8 spares
 pub record IsClusterSize (nodes spares : ℕ) : Type 0 where
-  pub even : nodes % 2 ≡ 0
-  pub at_least_two : 2 ≤ nodes
-  pub at_most_eight : nodes ≤ 8
+  pub counted : IsNodeCount nodes
   pub few_spares : spares ≤ 8
 
 -- the site of a node

@@ -1,4 +1,4 @@
--- What is kept beside the entries of a roster.
+-- What is kept beside the entries of a roster. No public clause cites this module.
 use Rattle.std.specs.Prelude.{◌≡◌, ℕ, ◌<◌, Bool, List}
 use Rattle.std.specs.List.{slice_index_or}
 use Rattle.cl_roster.specs.declared.entry.RosterEntry.{RosterEntry}

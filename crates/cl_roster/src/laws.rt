@@ -1,5 +1,16 @@
 //! The laws of the roster. A law is the contract of a function that does nothing.
 ghost use Rattle.cl_roster.specs.Laws.{RolesGoOnByOneStep, StopTakesOut, RepairPutsIn, EmptyIsLawful, LawfulEntryKeepsLawful, PrefixIsLawful, MembersAreSound, MembersAreOnTwoSites, AdmittedStopLeavesMember, PrimaryStays, MemberStays, StoppedNeverReturns, PrefixDecidesRoles, VerdictsMean, SparesMean, PickedSpareIsLawful, LawfulRostersAreShort};
+ghost use Rattle.cl_roster.specs.Roster.{IsClusterSize, IsLawfulRoster};
+
+use crate::Roster;
+
+/// Each roster is lawful, and of a size that there may be.
+pub fn rosters_are_lawful(roster: &Roster)
+    ensures size { IsClusterSize roster.now.nodes roster.now.spares }
+    ensures lawful { IsLawfulRoster roster.now.nodes roster.now.spares roster.now.entries }
+{
+    roster.lawful();
+}
 
 /// What one entry more makes of the roles of each virtual node.
 pub fn one_entry_more()

@@ -10,7 +10,8 @@ mod standing;
 
 pub use entry::RosterEntry;
 pub use laws::{
-    lawful_rosters, members_are_sound, one_entry_more, verdicts_and_spares, what_stays,
+    lawful_rosters, members_are_sound, one_entry_more, rosters_are_lawful, verdicts_and_spares,
+    what_stays,
 };
 pub use limits::{ENTRIES_MAX, NODES_MAX, VIRTUAL_NODES_MAX};
 pub use roles::Roles;

@@ -72,12 +72,19 @@ impl Roster {
         Ok(())
     }
 
+    // What a roster keeps: it is lawful, and of a size that there may be.
+    pub(crate) fn lawful(&self)
+        ensures size { IsClusterSize self.now.nodes self.now.spares }
+        ensures lawful { IsLawfulRoster self.now.nodes self.now.spares self.now.entries }
+    {
+        // A look inside, where the invariant is known.
+        let _nodes = self.nodes;
+    }
+
     /// How many entries there are.
     pub fn len(&self) -> u32
         ensures count { result ≡ length self.now.entries }
         ensures few { result ≤ ENTRIES_MAX }
-        ensures size { IsClusterSize self.now.nodes self.now.spares }
-        ensures lawful { IsLawfulRoster self.now.nodes self.now.spares self.now.entries }
     {
         self.entries.len() as u32
     }

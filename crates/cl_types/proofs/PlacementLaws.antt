@@ -1,5 +1,5 @@
 -- Where keys stand, for every number of nodes.
-use Rattle.std.proofs.Common.{◌≡◌, ℕ, ◌*◌, ◌<◌, ◌||◌, ◌==◌, List, [], ◌∷◌, ◌++◌, inl, inr, ◌⊎◌, ⊎_elim, arith}
+use Rattle.std.proofs.Common.{◌≡◌, ℕ, ◌*◌, ◌%◌, ◌<◌, ◌≤◌, ◌||◌, ◌==◌, List, [], ◌∷◌, ◌++◌, inl, inr, ◌⊎◌, ⊎_elim, refl, arith}
 use Rattle.std.proofs.lemmas.Bool.{eqb-true, or_cases}
 use Rattle.std.proofs.lemmas.List.Sums.{fold_push}
 use Rattle.cl_types.specs.Placement.{with_byte, hash_of, fragment_of, virtual_node_of, IsNodeCount}
@@ -13,6 +13,17 @@ node_count-cases nodes count = ⊎_elim
 
 pub node_count-some : (nodes : ℕ) → IsNodeCount nodes → 0 < nodes
 node_count-some nodes count = let cases = node_count-cases nodes count in grind arith
+
+-- from 2 to 8
+pub node_count-bounds : (nodes : ℕ) → IsNodeCount nodes → (2 ≤ nodes) × (nodes ≤ 8)
+node_count-bounds nodes count = let cases = node_count-cases nodes count in (grind arith, grind arith)
+
+-- as many on one site as on the other
+pub node_count-even : (nodes : ℕ) → IsNodeCount nodes → nodes % 2 ≡ 0
+node_count-even nodes count = elim (node_count-cases nodes count) [
+  | inl two ↦ rw two refl
+  | inr more ↦ elim more [ inl four ↦ rw four refl | inr most ↦ elim most [ inl six ↦ rw six refl | inr eight ↦ rw eight refl ] ]
+]
 
 -- a key of one more byte
 pub hash_of-push : (key : List ℕ) (byte : ℕ) → hash_of (key ++ byte ∷ []) ≡ with_byte (hash_of key) byte

@@ -10,7 +10,7 @@ stronger (Some Exclusive) other = Some Exclusive
 stronger (Some Shared) None = Some Shared
 stronger (Some Shared) (Some other) = Some other
 
--- two locks of one place conflict, unless both are shared
+-- two locks of one place conflict where both are there and one at least is exclusive
 abbrev pub is_conflict : Option Mode → Option Mode → Bool
 is_conflict None other = false
 is_conflict (Some mode) None = false

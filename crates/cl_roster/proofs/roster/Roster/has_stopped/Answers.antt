@@ -1,5 +1,6 @@
 use Rattle.std.proofs.Common.{sym, ◌∙◌, arith}
 use Rattle.std.proofs.lemmas.Bool.{le-ltb, false_from_ne_true}
+use Rattle.cl_types.proofs.PlacementLaws.{node_count-bounds}
 use Rattle.cl_types.specs.AppendOnlyList.{entries}
 use Rattle.cl_roster.specs.Roster.{has_stopped}
 use Rattle.cl_roster.proofs.Stays.{has_stopped-known}
@@ -14,5 +15,6 @@ returns-else-node-lt-NODES_MAX c =
     (λ stopped.
     (let known = has_stopped-known roster.nodes roster.spares (entries roster.entries) c.args.node kept.lawful stopped in
     let size = kept.size in
+    let bounds = node_count-bounds roster.nodes size.counted in
     omega arith)) in
     le-ltb c.args.node 16 c.if-node-lt-NODES_MAX.false ∙ sym (rw (← c.self.view_is) lives)
