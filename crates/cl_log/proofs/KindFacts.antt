@@ -11,132 +11,73 @@ use Rattle.cl_log.specs.Store.{value_after}
 
 -- a write has begun its transaction
 pub can_be_undone-opens : (content : LogRec) → can_be_undone content ≡ true → opens content ≡ true
-can_be_undone-opens (Touch txn table key mode) h = refl
-can_be_undone-opens (Set txn table key before old new) h = refl
-can_be_undone-opens (Add txn table key before amount) h = refl
 can_be_undone-opens (Comp txn table key before undone form) h = h
-can_be_undone-opens (Prepared txn) h = refl
 can_be_undone-opens (End txn commit) h = h
 can_be_undone-opens (Decide txn) h = h
+can_be_undone-opens content h = refl
 
 -- what a mark does not do
 pub mark_writes : (content : LogRec) (place : Place) → is_mark content ≡ true → writes place content ≡ false
-mark_writes (Touch txn table key mode) place h = refl
 mark_writes (Set txn table key before old new) place h = absurd (false≢true h)
 mark_writes (Add txn table key before amount) place h = absurd (false≢true h)
 mark_writes (Comp txn table key before undone form) place h = absurd (false≢true h)
-mark_writes (Prepared txn) place h = refl
-mark_writes (End txn commit) place h = refl
-mark_writes (Decide txn) place h = refl
+mark_writes content place h = refl
 
 pub mark_undoable : (content : LogRec) → is_mark content ≡ true → can_be_undone content ≡ false
-mark_undoable (Touch txn table key mode) h = refl
 mark_undoable (Set txn table key before old new) h = absurd (false≢true h)
 mark_undoable (Add txn table key before amount) h = absurd (false≢true h)
-mark_undoable (Comp txn table key before undone form) h = refl
-mark_undoable (Prepared txn) h = refl
-mark_undoable (End txn commit) h = refl
-mark_undoable (Decide txn) h = refl
+mark_undoable content h = refl
 
 pub mark_end : (content : LogRec) → is_mark content ≡ true → is_end content ≡ false
-mark_end (Touch txn table key mode) h = refl
-mark_end (Set txn table key before old new) h = refl
-mark_end (Add txn table key before amount) h = refl
-mark_end (Comp txn table key before undone form) h = refl
-mark_end (Prepared txn) h = refl
 mark_end (End txn commit) h = absurd (false≢true h)
-mark_end (Decide txn) h = refl
+mark_end content h = refl
 
 pub mark_undoes : (content : LogRec) (number : ℕ) → is_mark content ≡ true → undoes number content ≡ false
-mark_undoes (Touch txn table key mode) number h = refl
-mark_undoes (Set txn table key before old new) number h = refl
-mark_undoes (Add txn table key before amount) number h = refl
 mark_undoes (Comp txn table key before undone form) number h = absurd (false≢true h)
-mark_undoes (Prepared txn) number h = refl
-mark_undoes (End txn commit) number h = refl
-mark_undoes (Decide txn) number h = refl
+mark_undoes content number h = refl
 
 -- what can be undone ends nothing and undoes nothing
 pub write_end : (content : LogRec) → can_be_undone content ≡ true → is_end content ≡ false
-write_end (Touch txn table key mode) h = refl
-write_end (Set txn table key before old new) h = refl
-write_end (Add txn table key before amount) h = refl
-write_end (Comp txn table key before undone form) h = refl
-write_end (Prepared txn) h = refl
 write_end (End txn commit) h = absurd (false≢true h)
-write_end (Decide txn) h = refl
+write_end content h = refl
 
 pub write_undoes : (content : LogRec) (number : ℕ) → can_be_undone content ≡ true → undoes number content ≡ false
-write_undoes (Touch txn table key mode) number h = refl
-write_undoes (Set txn table key before old new) number h = refl
-write_undoes (Add txn table key before amount) number h = refl
 write_undoes (Comp txn table key before undone form) number h = absurd (false≢true h)
-write_undoes (Prepared txn) number h = refl
-write_undoes (End txn commit) number h = refl
-write_undoes (Decide txn) number h = refl
+write_undoes content number h = refl
 
 -- an End writes nothing and undoes nothing
 pub end_writes : (content : LogRec) (place : Place) → is_end content ≡ true → writes place content ≡ false
-end_writes (Touch txn table key mode) place h = refl
 end_writes (Set txn table key before old new) place h = absurd (false≢true h)
 end_writes (Add txn table key before amount) place h = absurd (false≢true h)
 end_writes (Comp txn table key before undone form) place h = absurd (false≢true h)
-end_writes (Prepared txn) place h = refl
-end_writes (End txn commit) place h = refl
-end_writes (Decide txn) place h = refl
+end_writes content place h = refl
 
 pub end_undoable : (content : LogRec) → is_end content ≡ true → can_be_undone content ≡ false
-end_undoable (Touch txn table key mode) h = refl
 end_undoable (Set txn table key before old new) h = absurd (false≢true h)
 end_undoable (Add txn table key before amount) h = absurd (false≢true h)
-end_undoable (Comp txn table key before undone form) h = refl
-end_undoable (Prepared txn) h = refl
-end_undoable (End txn commit) h = refl
-end_undoable (Decide txn) h = refl
+end_undoable content h = refl
 
 pub end_undoes : (content : LogRec) (number : ℕ) → is_end content ≡ true → undoes number content ≡ false
-end_undoes (Touch txn table key mode) number h = refl
-end_undoes (Set txn table key before old new) number h = refl
-end_undoes (Add txn table key before amount) number h = refl
 end_undoes (Comp txn table key before undone form) number h = absurd (false≢true h)
-end_undoes (Prepared txn) number h = refl
-end_undoes (End txn commit) number h = refl
-end_undoes (Decide txn) number h = refl
+end_undoes content number h = refl
 
 -- undoing keeps the place
 pub writes-undo_of : (content : LogRec) (number now : ℕ) (place : Place) → writes place (undo_of content number now) ≡ writes place content
-writes-undo_of (Touch txn table key mode) number now place = refl
-writes-undo_of (Set txn table key before old new) number now place = refl
-writes-undo_of (Add txn table key before amount) number now place = refl
-writes-undo_of (Comp txn table key before undone form) number now place = refl
-writes-undo_of (Prepared txn) number now place = refl
-writes-undo_of (End txn commit) number now place = refl
 writes-undo_of (Decide txn) number now place = refl
+writes-undo_of content number now place = refl
 
 -- a compensation makes of the value what undoing makes of it
 pub value_after-undo_of : (content : LogRec) (number now : ℕ) (value : Option (List ℕ)) → can_be_undone content ≡ true → value_after (undo_of content number now) value ≡ value_undone content value
-value_after-undo_of (Touch txn table key mode) number now value h = refl
-value_after-undo_of (Set txn table key before old new) number now value h = refl
-value_after-undo_of (Add txn table key before amount) number now value h = refl
 value_after-undo_of (Comp txn table key before undone form) number now value h = absurd (false≢true h)
-value_after-undo_of (Prepared txn) number now value h = refl
-value_after-undo_of (End txn commit) number now value h = refl
-value_after-undo_of (Decide txn) number now value h = refl
+value_after-undo_of content number now value h = refl
 
 pub opens-undo_of : (content : LogRec) (number now : ℕ) → can_be_undone content ≡ true → opens (undo_of content number now) ≡ false
 opens-undo_of (Touch txn table key mode) number now h = absurd (false≢true h)
-opens-undo_of (Set txn table key before old new) number now h = refl
-opens-undo_of (Add txn table key before amount) number now h = refl
 opens-undo_of (Comp txn table key before undone form) number now h = absurd (false≢true h)
 opens-undo_of (Prepared txn) number now h = absurd (false≢true h)
-opens-undo_of (End txn commit) number now h = refl
-opens-undo_of (Decide txn) number now h = refl
+opens-undo_of content number now h = refl
 
 pub is_end-undo_of : (content : LogRec) (number now : ℕ) → can_be_undone content ≡ true → is_end (undo_of content number now) ≡ false
-is_end-undo_of (Touch txn table key mode) number now h = refl
-is_end-undo_of (Set txn table key before old new) number now h = refl
-is_end-undo_of (Add txn table key before amount) number now h = refl
 is_end-undo_of (Comp txn table key before undone form) number now h = absurd (false≢true h)
-is_end-undo_of (Prepared txn) number now h = refl
 is_end-undo_of (End txn commit) number now h = absurd (false≢true h)
-is_end-undo_of (Decide txn) number now h = refl
+is_end-undo_of content number now h = refl

@@ -13,13 +13,8 @@ use Rattle.cl_log.proofs.Rest.{first_of_rest_is, undoes-undo_of}
 
 -- what names a number as undone undoes the first of a rest
 undoes_first : (seen : List Entry) (content : LogRec) (number : ℕ) → undoes number content ≡ true → MayFollow seen content → UndoesFirst seen content
-undoes_first seen (Touch txn table key mode) number h may = absurd (false≢true h)
-undoes_first seen (Set txn table key before old new) number h may = absurd (false≢true h)
-undoes_first seen (Add txn table key before amount) number h may = absurd (false≢true h)
 undoes_first seen (Comp txn table key before undone form) number h may = may.1
-undoes_first seen (Prepared txn) number h may = absurd (false≢true h)
-undoes_first seen (End txn commit) number h may = absurd (false≢true h)
-undoes_first seen (Decide txn) number h may = absurd (false≢true h)
+undoes_first seen content number h may = absurd (false≢true h)
 
 -- a compensation that may follow names a number that was not named before
 pub not_undone-before : (seen : List Entry) (content : LogRec) (number : ℕ) → undoes number content ≡ true → MayFollow seen content → is_undone seen number ≡ false

@@ -23,20 +23,14 @@ mode_at-none : (place : Place) (content : LogRec) → takes_lock content ≡ fal
 mode_at-none place (Touch txn table key mode) h = absurd (true≢false h)
 mode_at-none place (Set txn table key before old new) h = absurd (true≢false h)
 mode_at-none place (Add txn table key before amount) h = absurd (true≢false h)
-mode_at-none place (Comp txn table key before undone form) h = refl
-mode_at-none place (Prepared txn) h = refl
-mode_at-none place (End txn commit) h = refl
-mode_at-none place (Decide txn) h = refl
+mode_at-none place content h = refl
 
 -- what takes a lock opens its transaction
 takes_lock-opens : (content : LogRec) → opens content ≡ false → takes_lock content ≡ false
 takes_lock-opens (Touch txn table key mode) h = h
 takes_lock-opens (Set txn table key before old new) h = h
 takes_lock-opens (Add txn table key before amount) h = h
-takes_lock-opens (Comp txn table key before undone form) h = refl
-takes_lock-opens (Prepared txn) h = refl
-takes_lock-opens (End txn commit) h = refl
-takes_lock-opens (Decide txn) h = refl
+takes_lock-opens content h = refl
 
 -- an empty log has no locks
 pub locks_of_log-nil : (txn : TxnId) (place : Place) → locks_of_log [] txn place ≡ None
@@ -113,13 +107,9 @@ strongest_exclusive txn place (x ∷ xs) =
     ]
 
 mode_at-write : (place : Place) (content : LogRec) → can_be_undone content ≡ true → writes place content ≡ true → mode_at place content ≡ Some Exclusive
-mode_at-write place (Touch txn table key mode) h k = absurd (false≢true h)
 mode_at-write place (Set txn table key before old new) h k = cond-true _ _ _ k
 mode_at-write place (Add txn table key before amount) h k = cond-true _ _ _ k
-mode_at-write place (Comp txn table key before undone form) h k = absurd (false≢true h)
-mode_at-write place (Prepared txn) h k = absurd (false≢true h)
-mode_at-write place (End txn commit) h k = absurd (false≢true h)
-mode_at-write place (Decide txn) h k = absurd (false≢true h)
+mode_at-write place content h k = absurd (false≢true h)
 
 pub locks_of_log-write : (xs : List Entry) (entry : Entry) (ys : List Entry) (txn : TxnId) (place : Place) →
     is_open (xs ++ entry ∷ ys) txn ≡ true → is_of txn entry.content ≡ true → can_be_undone entry.content ≡ true → writes place entry.content ≡ true →

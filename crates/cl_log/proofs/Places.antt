@@ -20,13 +20,10 @@ IsAt (Decide txn) place = ⊥
 
 -- a write is at its place
 pub writes-at : (place : Place) (content : LogRec) → writes place content ≡ true → IsAt content place
-writes-at place (Touch txn table key mode) h = absurd (false≢true h)
 writes-at place (Set txn table key before old new) h = same_place-true (table, key) place h
 writes-at place (Add txn table key before amount) h = same_place-true (table, key) place h
 writes-at place (Comp txn table key before undone form) h = same_place-true (table, key) place h
-writes-at place (Prepared txn) h = absurd (false≢true h)
-writes-at place (End txn commit) h = absurd (false≢true h)
-writes-at place (Decide txn) h = absurd (false≢true h)
+writes-at place content h = absurd (false≢true h)
 
 -- a record writes nothing and locks nothing elsewhere
 pub writes-elsewhere : (place : Place) (content : LogRec) → ¬ IsAt content place → writes place content ≡ false
@@ -36,7 +33,4 @@ pub mode_at-elsewhere : (place : Place) (content : LogRec) → ¬ IsAt content p
 mode_at-elsewhere place (Touch txn table key mode) h = cond-false _ _ _ (same_place-false (table, key) place h)
 mode_at-elsewhere place (Set txn table key before old new) h = cond-false _ _ _ (same_place-false (table, key) place h)
 mode_at-elsewhere place (Add txn table key before amount) h = cond-false _ _ _ (same_place-false (table, key) place h)
-mode_at-elsewhere place (Comp txn table key before undone form) h = refl
-mode_at-elsewhere place (Prepared txn) h = refl
-mode_at-elsewhere place (End txn commit) h = refl
-mode_at-elsewhere place (Decide txn) h = refl
+mode_at-elsewhere place content h = refl

@@ -265,22 +265,14 @@ kept_above p q n bound (x ∷ xs) h l k =
 
 -- the undoing of a write names its number
 pub undoes-undo_of : (content : LogRec) (number now k : ℕ) → can_be_undone content ≡ true → undoes k (undo_of content number now) ≡ eqb number k
-undoes-undo_of (Touch txn table key mode) number now k h = absurd (false≢true h)
 undoes-undo_of (Set txn table key before old new) number now k h = refl
 undoes-undo_of (Add txn table key before amount) number now k h = refl
-undoes-undo_of (Comp txn table key before undone form) number now k h = absurd (false≢true h)
-undoes-undo_of (Prepared txn) number now k h = absurd (false≢true h)
-undoes-undo_of (End txn commit) number now k h = absurd (false≢true h)
-undoes-undo_of (Decide txn) number now k h = absurd (false≢true h)
+undoes-undo_of content number now k h = absurd (false≢true h)
 
 pub can_be_undone-undo_of : (content : LogRec) (number now : ℕ) → can_be_undone content ≡ true → can_be_undone (undo_of content number now) ≡ false
-can_be_undone-undo_of (Touch txn table key mode) number now h = absurd (false≢true h)
 can_be_undone-undo_of (Set txn table key before old new) number now h = refl
 can_be_undone-undo_of (Add txn table key before amount) number now h = refl
-can_be_undone-undo_of (Comp txn table key before undone form) number now h = absurd (false≢true h)
-can_be_undone-undo_of (Prepared txn) number now h = absurd (false≢true h)
-can_be_undone-undo_of (End txn commit) number now h = absurd (false≢true h)
-can_be_undone-undo_of (Decide txn) number now h = absurd (false≢true h)
+can_be_undone-undo_of content number now h = absurd (false≢true h)
 
 -- a rest without the number of an entry that is not in it
 rest-without : (entries : List Entry) (txn : TxnId) (n : ℕ) → IsNumberedFrom n entries → (entry : Entry) (before after : List Entry) → entries ≡ before ++ entry ∷ after → is_left_of entries txn entry ≡ false →

@@ -16,10 +16,7 @@ abbrev pub mode_at : Place → LogRec → Option Mode
 mode_at place (Touch txn table key mode) = if same_place (table, key) place then Some mode else None
 mode_at place (Set txn table key before old new) = if same_place (table, key) place then Some Exclusive else None
 mode_at place (Add txn table key before amount) = if same_place (table, key) place then Some Exclusive else None
-mode_at place (Comp txn table key before undone form) = None
-mode_at place (Prepared txn) = None
-mode_at place (End txn commit) = None
-mode_at place (Decide txn) = None
+mode_at place content = None
 
 -- the mode of a transaction at a place after one more record
 abbrev pub mode_after : TxnId → Place → Option Mode → Entry → Option Mode
@@ -38,10 +35,7 @@ abbrev pub takes_lock : LogRec → Bool
 takes_lock (Touch txn table key mode) = true
 takes_lock (Set txn table key before old new) = true
 takes_lock (Add txn table key before amount) = true
-takes_lock (Comp txn table key before undone form) = false
-takes_lock (Prepared txn) = false
-takes_lock (End txn commit) = false
-takes_lock (Decide txn) = false
+takes_lock content = false
 
 -- the locks after one more record: an End frees the locks of its transaction, what takes a lock makes it as strong as it asks
 abbrev pub locks_after : (TxnId → Place → Option Mode) → Entry → TxnId → Place → Option Mode

@@ -12,13 +12,9 @@ use Rattle.cl_log.specs.Store.{less, value_after, store_of_log}
 
 -- what undoing a write makes of the value: of a Set the old image, of an Add the value less the amount
 abbrev pub value_undone : LogRec → Option (List ℕ) → Option (List ℕ)
-value_undone (Touch txn table key mode) value = value
 value_undone (Set txn table key before old new) value = old
 value_undone (Add txn table key before amount) value = less amount value
-value_undone (Comp txn table key before undone form) value = value
-value_undone (Prepared txn) value = value
-value_undone (End txn commit) value = value
-value_undone (Decide txn) value = value
+value_undone content value = value
 
 -- the value at a place after undoing one more record
 abbrev pub undone_at : Place → Option (List ℕ) → Entry → Option (List ℕ)

@@ -21,13 +21,10 @@ form_value (Amount amount) value = less amount value
 
 -- what a write makes of the value: a Set its new image, an Add the sum, a Comp its image or the value less its amount
 abbrev pub value_after : LogRec → Option (List ℕ) → Option (List ℕ)
-value_after (Touch txn table key mode) value = value
 value_after (Set txn table key before old new) value = new
 value_after (Add txn table key before amount) value = plain_value (PlainAdd amount) value
 value_after (Comp txn table key before undone form) value = form_value form value
-value_after (Prepared txn) value = value
-value_after (End txn commit) value = value
-value_after (Decide txn) value = value
+value_after content value = value
 
 -- what stands at a place after a write there
 abbrev pub written : Entry → Stored → Stored

@@ -21,13 +21,10 @@ skipped_on stored before number below (inr ahead) =
 
 -- how a write is redone is by what stands at its place
 redone_as-write : (stored : Place → Stored) (content : LogRec) (place : Place) → writes place content ≡ true → redone_as stored content ≡ redone_on (stored place).0 (number_before content)
-redone_as-write stored (Touch txn table key mode) place write = absurd (false≢true write)
 redone_as-write stored (Set txn table key before old new) place write = ap (λ p. redone_on (stored p).0 before) (same_place-true (table, key) place write)
 redone_as-write stored (Add txn table key before amount) place write = ap (λ p. redone_on (stored p).0 before) (same_place-true (table, key) place write)
 redone_as-write stored (Comp txn table key before undone form) place write = ap (λ p. redone_on (stored p).0 before) (same_place-true (table, key) place write)
-redone_as-write stored (Prepared txn) place write = absurd (false≢true write)
-redone_as-write stored (End txn commit) place write = absurd (false≢true write)
-redone_as-write stored (Decide txn) place write = absurd (false≢true write)
+redone_as-write stored content place write = absurd (false≢true write)
 
 -- a write is skipped exactly where the stored number is at least its own
 pub skipped-ahead : (stored : Place → Stored) (entry : Entry) → MeetsWrite stored entry → (redone : Redone) → redone ≡ redone_as stored entry.content →

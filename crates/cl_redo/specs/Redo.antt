@@ -19,13 +19,10 @@ redone_on number before = if number == before then Applied else Skipped
 
 -- how a record is redone, by what stands at each place; what writes nothing is marked
 abbrev pub redone_as : (Place → Stored) → LogRec → Redone
-redone_as stored (Touch txn table key mode) = Marked
 redone_as stored (Set txn table key before old new) = redone_on (stored (table, key)).0 before
 redone_as stored (Add txn table key before amount) = redone_on (stored (table, key)).0 before
 redone_as stored (Comp txn table key before undone form) = redone_on (stored (table, key)).0 before
-redone_as stored (Prepared txn) = Marked
-redone_as stored (End txn commit) = Marked
-redone_as stored (Decide txn) = Marked
+redone_as stored content = Marked
 
 -- the grants at a place after a lock of a transaction at another or the same place
 abbrev pub with_lock : TxnId → Place → Mode → Place → List Grant → List Grant
@@ -36,20 +33,15 @@ abbrev pub grants_after : LogRec → Place → List Grant → List Grant
 grants_after (Touch txn table key mode) place grants = with_lock txn (table, key) mode place grants
 grants_after (Set txn table key before old new) place grants = with_lock txn (table, key) Exclusive place grants
 grants_after (Add txn table key before amount) place grants = with_lock txn (table, key) Exclusive place grants
-grants_after (Comp txn table key before undone form) place grants = grants
-grants_after (Prepared txn) place grants = grants
 grants_after (End txn commit) place grants = without_txn txn grants
-grants_after (Decide txn) place grants = grants
+grants_after content place grants = grants
 
 -- what writes nothing and locks nothing: it is taken without memory where the log has room
 abbrev pub needs_no_memory : LogRec → Bool
-needs_no_memory (Touch txn table key mode) = false
-needs_no_memory (Set txn table key before old new) = false
-needs_no_memory (Add txn table key before amount) = false
-needs_no_memory (Comp txn table key before undone form) = false
 needs_no_memory (Prepared txn) = true
 needs_no_memory (End txn commit) = true
 needs_no_memory (Decide txn) = true
+needs_no_memory content = false
 
 -- what stands at each place is the store of the log
 abbrev pub IsStoreOf : (Place → Stored) → List Entry → Type 0

@@ -118,10 +118,9 @@ takes_operand b =
 
 pub again_operand : (op : Op) → IsOp op → Again (read_operand (op_byte op)) (operand_bytes op) op
 unfolding read_operand
-again_operand Get fits = again_done _
 again_operand (Put value) fits = again_last _ _ _ _ _ (again_value value fits) (again_done _)
-again_operand Del fits = again_done _
 again_operand (Add amount) fits = again_last _ _ _ _ _ (again_amount amount fits) (again_done _)
+again_operand other fits = again_done _
 
 -- the text is a table, a key and what stands after it, of an operation with this byte
 pub record IsWork (b : ℕ) (work : List ℕ × List ℕ × Op) (taken : List ℕ) : Type 0 where
@@ -172,16 +171,12 @@ takes_op = takes_bind _ _ _ _ (takes_between 1 4) (λ b text_1 h1.
     }))
 
 op_byte-low : (op : Op) → 1 ≤ op_byte op
-op_byte-low Get = omega arith
-op_byte-low (Put value) = omega arith
-op_byte-low Del = omega arith
 op_byte-low (Add amount) = omega arith
+op_byte-low other = omega arith
 
 op_byte-high : (op : Op) → op_byte op ≤ 4
-op_byte-high Get = omega arith
-op_byte-high (Put value) = omega arith
-op_byte-high Del = omega arith
 op_byte-high (Add amount) = omega arith
+op_byte-high other = omega arith
 
 pub again_op : (table key : List ℕ) (op : Op) → IsTable table → IsKey key → IsOp op → Again read_op (op_bytes table key op) (table, key, op)
 unfolding read_op op_bytes

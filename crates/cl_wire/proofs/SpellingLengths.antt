@@ -66,10 +66,9 @@ length-form_bytes (Image image) fits = omega (arith, length-image_bytes image fi
 length-form_bytes (Amount amount) fits = omega (arith, length-amount_bytes amount)
 
 length-operand_bytes : (op : Op) → IsOp op → length (operand_bytes op) ≤ 130
-length-operand_bytes Get fits = omega arith
 length-operand_bytes (Put value) fits = length-value_bytes value fits
-length-operand_bytes Del fits = omega arith
 length-operand_bytes (Add amount) fits = omega (arith, length-amount_bytes amount)
+length-operand_bytes other fits = omega arith
 
 length-op_bytes : (table key : List ℕ) (op : Op) → IsTable table → IsKey key → IsOp op → length (op_bytes table key op) ≤ 173
 unfolding op_bytes
@@ -78,10 +77,8 @@ length-op_bytes table key op fits_table fits_key fits_op =
 
 length-command_bytes : (command : ClientCommand) → IsCommand command → length (command_bytes command) ≤ 173
 unfolding command_bytes
-length-command_bytes Begin fits = omega arith
 length-command_bytes (Work table key op) fits = length-op_bytes table key op fits.0 fits.1 fits.2
-length-command_bytes Commit fits = omega arith
-length-command_bytes Abort fits = omega arith
+length-command_bytes other fits = omega arith
 
 length-reply_bytes : (reply : Reply) → IsReply reply → length (reply_bytes reply) ≤ 131
 unfolding reply_bytes

@@ -75,16 +75,13 @@ IsForm (Image image) = IsImage image
 IsForm (Amount amount) = IsAmount amount
 
 abbrev pub IsOp : Op → Type 0
-IsOp Get = Unit {0}
 IsOp (Put value) = IsValue value
-IsOp Del = Unit {0}
 IsOp (Add amount) = IsAmount amount
+IsOp other = Unit {0}
 
 abbrev pub IsCommand : ClientCommand → Type 0
-IsCommand Begin = Unit {0}
 IsCommand (Work table key op) = IsTable table × IsKey key × IsOp op
-IsCommand Commit = Unit {0}
-IsCommand Abort = Unit {0}
+IsCommand other = Unit {0}
 
 abbrev pub IsReply : Reply → Type 0
 IsReply replies.Stored = Unit {0}
