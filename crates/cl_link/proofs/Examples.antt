@@ -1,7 +1,7 @@
 -- The definitions at a small exchange: of two messages the first is lost, and is sent again after the second.
 use Rattle.std.proofs.Common.{◌≡◌, ℕ, List, [], ◌∷◌, refl}
-use Rattle.cl_link.specs.LinkState.{first_due, due_of, taken_of, after_send, after_sent, after_again, after_heard, after_accept}
-use Rattle.cl_link.specs.Network.{LinkAct, Give, Mark, Tick, Emit, Comes, Lose, after_act, LinkEvent, after_event, after_events}
+use Rattle.cl_link.specs.LinkState.{first_due, due_of, taken_of, after_send, after_sent, after_again, after_heard, after_accept, after_drop_all}
+use Rattle.cl_link.specs.Network.{LinkAct, Give, Mark, Tick, Emit, Comes, Lose, Drop, after_act, LinkEvent, after_event, after_events}
 
 abbrev act : ℕ → ℕ → LinkAct ℕ → LinkEvent ℕ
 act actor peer what = record { actor = actor; peer = peer; act = what }
@@ -32,3 +32,15 @@ took-to_itself = refl
 kept-to_itself : (after_events to_itself 3 3).link.kept ≡ []
 unfolding first_due due_of taken_of after_send after_sent after_again after_heard after_accept after_act after_event after_events
 kept-to_itself = refl
+
+-- a message is dropped before it is sent: the link counts it as no longer kept, the peer never accepts it, and the next one is a gap
+abbrev dropping : List (LinkEvent ℕ)
+dropping = act 1 2 (Give 10) ∷ act 1 2 Drop ∷ act 1 2 (Give 20) ∷ act 1 2 Emit ∷ act 2 1 (Comes 0) ∷ []
+
+released-dropping : (after_events dropping 1 2).link.released ≡ 1
+unfolding first_due due_of taken_of after_send after_sent after_again after_heard after_accept after_drop_all after_act after_event after_events
+released-dropping = refl
+
+took-dropping : (after_events dropping 2 1).took ≡ []
+unfolding first_due due_of taken_of after_send after_sent after_again after_heard after_accept after_drop_all after_act after_event after_events
+took-dropping = refl

@@ -182,7 +182,12 @@ pub after_events-push : {B : Type 0} (events : List (LinkEvent B)) (event : Link
 unfolding after_events
 after_events-push events event = fold-append after_event quiet_network events (event ∷ [])
 
--- the invariant of each link whose sender did not drop what it kept
+-- each link keeps its order, also after drops
+pub links_keep_order : {B : Type 0} (events : List (LinkEvent B)) (actor peer : ℕ) → LinkOrder (after_events events peer actor).given (after_events events peer actor).link (after_events events actor peer).link (after_events events peer actor).out
+unfolding NetworkHolds
+links_keep_order events actor peer = (network-holds events actor peer).order
+
+-- the invariant of each link whose sender never dropped what it kept
 pub links_are_pairs : {B : Type 0} (events : List (LinkEvent B)) (actor peer : ℕ) → (after_events events peer actor).dropped ≡ false → LinkPair (after_events events peer actor).given (after_events events peer actor).link (after_events events actor peer).link (after_events events peer actor).out (after_events events actor peer).out
 unfolding NetworkHolds
 links_are_pairs events actor peer alive =
@@ -197,6 +202,8 @@ in_order_and_once events = record {
         ap (λ (xs : List _). xs ++ drop (after_events events actor peer).link.accepted (after_events events peer actor).given) ends.took
             ∙ take-append-drop (after_events events actor peer).link.accepted (after_events events peer actor).given,
       );
+  counted = λ actor peer.
+      let ends = network-holds events actor peer in ap length ends.took ∙ length-take-le _ _ ends.order.accepted;
   acknowledged = λ actor peer alive.
       let ends = network-holds events actor peer in
       omega (arith, (ends.acks alive).released, ap length ends.took, length-take-le _ _ ends.order.accepted);

@@ -3,7 +3,7 @@ use Rattle.std.specs.Prelude.{◌≡◌, ℕ, ◌^◌, ◌≤◌, Bool, true, fa
 use Rattle.cl_link.specs.declared.link.Taken.{Taken}
 use Rattle.cl_link.specs.declared.link.Taken.TheVariants.{Now, Old, Gap}
 use Rattle.cl_link.specs.LinkState.{LinkState, no_message, last_number, unacknowledged, due_of, taken_of, after_send, after_sent, after_again, after_drop_all}
-use Rattle.cl_link.specs.LinkPair.{LinkPacket, LinkPair, after_packet}
+use Rattle.cl_link.specs.LinkPair.{LinkPacket, LinkOrder, LinkPair, after_packet}
 
 -- one end of a link, and what happened there so far
 pub record LinkEnd (B : Type 0) : Type 0 where
@@ -13,7 +13,7 @@ pub record LinkEnd (B : Type 0) : Type 0 where
   pub took : List B
   -- the packets that are on their way to the peer
   pub out : List (LinkPacket B)
-  -- whether what was kept was dropped unacknowledged
+  -- whether the end ever dropped what it kept, be it nothing
   pub dropped : Bool
 
 -- the link of each actor to each peer, itself included
@@ -95,16 +95,24 @@ IsPrefixOf {B} xs ys = (rest : List B) × (xs ++ rest ≡ ys)
 pub record InOrderAndOnce {B : Type 0} (network : Network B) : Type 0 where
   -- what an actor accepted from a peer, in order, is a beginning of what the peer gave its link to it
   pub in_order : (actor peer : ℕ) → IsPrefixOf (network actor peer).took (network peer actor).given
-  -- a message that counts as acknowledged was accepted
+  -- the link's count, which each packet emitted carries as its acknowledgement, is how many messages were accepted
+  pub counted : (actor peer : ℕ) → length (network actor peer).took ≡ (network actor peer).link.accepted
+  -- where the sender never dropped what it kept, a message that counts as acknowledged was accepted
   pub acknowledged : (actor peer : ℕ) → (network peer actor).dropped ≡ false → (network peer actor).link.released ≤ length (network actor peer).took
-  -- each message after these is kept
+  -- each message after those that were acknowledged or dropped is kept
   pub kept : (actor peer : ℕ) → unacknowledged (network peer actor).link ≡ drop (network peer actor).link.released (network peer actor).given
 
--- whatever is given, marked, emitted, lost, repeated or reordered, each link is in order and once
+-- whatever is given, marked, due again, dropped, emitted, lost, repeated or reordered, each link is in order and once
 abbrev pub LinksInOrderAndOnce : Type 0 → Type 0
 LinksInOrderAndOnce B = (events : List (LinkEvent B)) → InOrderAndOnce (after_events events)
 
--- and both ends of each link whose sender did not drop what it kept are a pair with the packets on their way
+-- both ends of each link keep the order with the packets on their way to the receiver, also after drops
+abbrev pub LinksKeepOrder : Type 0 → Type 0
+LinksKeepOrder B =
+    (events : List (LinkEvent B)) (actor peer : ℕ) →
+    LinkOrder (after_events events peer actor).given (after_events events peer actor).link (after_events events actor peer).link (after_events events peer actor).out
+
+-- and where the sender never dropped what it kept, they are a pair with the packets on their way to the receiver and back
 abbrev pub LinksArePairs : Type 0 → Type 0
 LinksArePairs B =
     (events : List (LinkEvent B)) (actor peer : ℕ) → (after_events events peer actor).dropped ≡ false →

@@ -4,7 +4,7 @@ ghost use Rattle.cl_link.specs.Kept.{due_place, sent_at, all_due};
 
 use std::collections::VecDeque;
 
-/// A message that is kept until it is acknowledged.
+/// A message that is kept until it is acknowledged or dropped.
 #[derive(Debug, Drop)]
 pub(crate) struct Kept<B> {
     pub(crate) body: B,

@@ -24,7 +24,7 @@ pub enum Taken {
 
 /// One end of a link: the messages to its peer, and how many were accepted from it.
 ///
-/// Messages are numbered from 1 by the order in which they are given. Each is kept until it is acknowledged.
+/// Messages are numbered from 1 by the order in which they are given. Each is kept until it is acknowledged or dropped.
 #[derive(Debug, Drop)]
 pub struct Link<B> {
     kept: VecDeque<Kept<B>>,
@@ -60,7 +60,7 @@ impl<B> Link<B> {
         }
     }
 
-    /// Gives a message to the link, which keeps it until it is acknowledged. It is due. Answers its number.
+    /// Gives a message to the link, which keeps it until it is acknowledged or dropped. It is due. Answers its number.
     ///
     /// After a refusal the link is as before, and the message is dropped.
     #[tactic(auto, unfolding(crate::specs::LinkState::after_send))]
@@ -106,7 +106,7 @@ impl<B> Link<B> {
         self.due = place_of_due(&self.kept, self.due);
     }
 
-    /// Each message that is not acknowledged is due again. It takes time for each of them.
+    /// Each message that is kept is due again. It takes time for each of them.
     #[tactic(auto, unfolding(crate::specs::LinkState::after_again))]
     pub fn again(&mut self)
         ensures { self.new ≡ after_again self.old }
@@ -139,7 +139,7 @@ impl<B> Link<B> {
 
     /// A packet comes that carries an acknowledgement alone: what it acknowledges is dropped.
     ///
-    /// One above the last number covers each message. It takes constant time, and so much more for each message dropped.
+    /// One above the last number covers each message that is kept. It takes constant time, and so much more for each message dropped.
     #[tactic(auto, unfolding(crate::specs::LinkState::after_heard))]
     pub fn heard(&mut self, ack: u64)
     where
@@ -169,7 +169,7 @@ impl<B> Link<B> {
         self.released + self.kept.len() as u64
     }
 
-    /// How many messages are kept: given, and not acknowledged.
+    /// How many messages are kept: given, and neither acknowledged nor dropped.
     pub fn unacked(&self) -> usize
         ensures { result ≡ length self.now.kept }
     {
