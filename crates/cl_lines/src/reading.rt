@@ -100,8 +100,8 @@ fn read_command(alloc: Global, mut words: Words<'_>) -> Result<Command, Unread>
     read_put(alloc, verb, table, key, value)
 }
 
-/// Reads a line, given without its newline. It takes memory for the value of a PUT alone, and time in proportion
-/// to the line.
+/// Reads a line, given without its newline. By the form of its code it takes memory for the value of a PUT alone,
+/// and time in proportion to the line; no contract speaks of either.
 #[tactic(auto, unfolding(crate::specs::Line::line_of))]
 pub fn read_line(alloc: Global, text: &[u8]) -> Result<Line, Unread>
     // The line that the bytes are, or the fault that they have; want of memory may come at any line.

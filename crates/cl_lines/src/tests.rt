@@ -11,30 +11,27 @@ fn repeated(alloc: Global, front: &[u8], byte: u8, times: usize) -> Result<Vec<u
     Ok(line)
 }
 
-fn has_no_form(alloc: Global, line: &[u8]) -> bool {
-    matches!(read_line(alloc, line), Err(Unread::Fault(LineFault::Words)))
-}
-
-// The value that an operation writes.
-fn written(op: &Op) -> Option<&[u8]> {
-    match op {
-        Op::Put(value) => Some(value.bytes()),
-        _ => None,
+// Whether the line has no form, unless memory is wanting.
+fn has_no_form(alloc: Global, line: &[u8]) -> Result<bool, NoMemory> {
+    match read_line(alloc, line) {
+        Ok(_) => Ok(false),
+        Err(Unread::Fault(LineFault::Words)) => Ok(true),
+        Err(Unread::NoMemory) => Err(NoMemory),
     }
 }
 
-// Whether the line asks session 1 for this operation, a write if there is a value and else a read.
-fn asks(line: &Line, table: &[u8], key: &[u8], value: Option<&[u8]>) -> bool {
+// Whether the line asks session 1 for this operation.
+fn asks(line: &Line, table: &[u8], key: &[u8], op: &Op) -> bool {
     match line {
-        Line::Client(1, Command::Work(t, k, op)) => {
-            t.bytes() == table && k.bytes() == key && written(op) == value
+        Line::Client(1, Command::Work(t, k, asked)) => {
+            t.bytes() == table && k.bytes() == key && asked == op
         }
         _ => false,
     }
 }
 
 #[test]
-fn each_form_is_read(rt: HostRuntime) {
+fn each_form_is_read(rt: HostRuntime) -> Result<(), Fail> {
     let alloc = rt.alloc();
     let begin = read_line(alloc, b"1 BEGIN");
     assert!(rt; matches!(&begin, Ok(Line::Client(1, Command::Begin))));
@@ -43,24 +40,28 @@ fn each_form_is_read(rt: HostRuntime) {
     assert!(rt; matches!(&commit, Ok(Line::Client(1, Command::Commit))));
 
     let get = read_line(alloc, b"1 GET subs 46.70_a-1");
-    assert!(rt; matches!(&get, Ok(line) if asks(line, b"subs", b"46.70_a-1", None)));
+    assert!(rt; matches!(&get, Ok(line) if asks(line, b"subs", b"46.70_a-1", &Op::Get)));
 
-    let put = read_line(alloc, b"1 PUT subs 4670 cell=12,~!");
-    assert!(rt; matches!(&put, Ok(line) if asks(line, b"subs", b"4670", Some(b"cell=12,~!"))));
+    let write = Op::Put(Value::read(alloc, b"cell=12,~!")?.ok_or("a value")?);
+    let put = read_line(alloc, b"1 PUT subs 4670 cell=12,~!")?;
+    assert!(rt; asks(&put, b"subs", b"4670", &write));
+    Ok(())
 }
 
 // Where an allocation fails, the line has no fault, and is read then.
 #[test]
-fn a_want_of_memory_is_no_fault_of_the_line(rt: HostRuntime) {
+fn a_want_of_memory_is_no_fault_of_the_line(rt: HostRuntime) -> Result<(), Fail> {
+    let write = Op::Put(Value::read(rt.alloc(), b"v")?.ok_or("a value")?);
     let mut put = read_line(rt.alloc(), b"1 PUT t k v");
     if put == Err(Unread::NoMemory) {
         put = read_line(rt.alloc(), b"1 PUT t k v");
     }
-    assert!(rt; matches!(&put, Ok(line) if asks(line, b"t", b"k", Some(b"v"))));
+    assert!(rt; matches!(&put, Ok(line) if asks(line, b"t", b"k", &write)));
+    Ok(())
 }
 
 #[test]
-fn other_lines_have_no_form(rt: HostRuntime) {
+fn other_lines_have_no_form(rt: HostRuntime) -> Result<(), Fail> {
     let lines: [&[u8]; 24] = [
         b"",
         b" ",
@@ -88,20 +89,21 @@ fn other_lines_have_no_form(rt: HostRuntime) {
         b"1 PUT t a",
     ];
     for line in lines {
-        assert!(rt; has_no_form(rt.alloc(), line), "{line:?}");
+        assert!(rt; has_no_form(rt.alloc(), line)?, "{line:?}");
     }
+    Ok(())
 }
 
 #[test]
 fn lengths_have_their_limits(rt: HostRuntime) -> Result<(), Fail> {
     let alloc = rt.alloc();
-    assert!(rt; !has_no_form(alloc, &repeated(alloc, b"1 GET t ", b'k', 32)?));
-    assert!(rt; has_no_form(alloc, &repeated(alloc, b"1 GET t ", b'k', 33)?));
-    assert!(rt; !has_no_form(alloc, &repeated(alloc, b"1 PUT t k ", b'x', 128)?));
-    assert!(rt; has_no_form(alloc, &repeated(alloc, b"1 PUT t k ", b'x', 129)?));
+    assert!(rt; !has_no_form(alloc, &repeated(alloc, b"1 GET t ", b'k', 32)?)?);
+    assert!(rt; has_no_form(alloc, &repeated(alloc, b"1 GET t ", b'k', 33)?)?);
+    assert!(rt; !has_no_form(alloc, &repeated(alloc, b"1 PUT t k ", b'x', 128)?)?);
+    assert!(rt; has_no_form(alloc, &repeated(alloc, b"1 PUT t k ", b'x', 129)?)?);
     let longest = repeated(alloc, b"1 PUT t k ", b'x', 247)?;
     assert_eq!(rt; longest.len(), LINE_MAX + 1);
-    assert!(rt; has_no_form(alloc, &longest));
+    assert!(rt; has_no_form(alloc, &longest)?);
     Ok(())
 }
 

@@ -1,6 +1,6 @@
 //! Exchanges with values worked out by hand.
 use crate::{Link, Taken, in_order_and_once};
-use cl_types::NoMemory;
+use cl_types::{NoMemory, Refused};
 use std::alloc::Global;
 use std::test::Fail;
 
@@ -164,6 +164,20 @@ fn marks_and_drops(rt: HostRuntime) -> Result<(), Fail> {
     assert_eq!(rt; link.send(6)?, 4, "the numbers go on");
     assert_eq!(rt; link.accepted(), 1);
     Ok(())
+}
+
+// Where an allocation fails, nothing is kept, and the next message has the number.
+#[test]
+fn a_want_of_memory_leaves_the_link(rt: HostRuntime) {
+    let mut link = Link::new(rt.alloc());
+    let mut sent = link.send(7);
+    if sent == Err(Refused::NoMemory) {
+        assert_eq!(rt; due(&link), None);
+        assert_eq!(rt; link.last_number(), 0);
+        sent = link.send(7);
+    }
+    assert_eq!(rt; sent, Ok(1));
+    assert_eq!(rt; due(&link), Some((1, 7)));
 }
 
 fn due(link: &Link<u32>) -> Option<(u64, u32)> {

@@ -276,6 +276,22 @@ fn runs(rt: &impl Abort, alloc: Global, nodes: u32, spares: u32) -> Result<(), F
     Ok(())
 }
 
+// Where an allocation fails, the roster has no entry, and takes it then.
+#[test]
+fn a_want_of_memory_leaves_the_roster(rt: HostRuntime) -> Result<(), Fail> {
+    let mut roster = Roster::new(rt.alloc(), 4, 2);
+    if stop_where_admitted(&mut roster, 1).is_err() {
+        assert!(rt; roster.is_empty());
+        assert!(rt; roster.living(0, 1));
+        assert_eq!(rt; roster.roles(0, 1).primary, 1);
+        assert_eq!(rt; stop_where_admitted(&mut roster, 1)?, Ok(()));
+    }
+    assert_eq!(rt; roster.len(), 1);
+    assert!(rt; !roster.living(1, 1));
+    assert_eq!(rt; roster.roles(1, 1).primary, 2);
+    Ok(())
+}
+
 #[test]
 fn roles_and_verdicts_follow_each_entry(rt: HostRuntime) -> Result<(), Fail> {
     for spares in 0..9 {

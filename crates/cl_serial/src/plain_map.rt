@@ -166,6 +166,39 @@ mod tests {
     }
 
     #[test]
+    fn a_deletion_leaves_nothing(rt: HostRuntime) -> Result<(), Fail> {
+        let (table, key) = (table(b"stock")?, key(b"bolt")?);
+        let mut plain = PlainMap::new(rt.alloc());
+        assert_eq!(rt; plain.apply(&table, &key, &Op::Add(12))?, Reply::Sum(12));
+        assert_eq!(rt; plain.count(), 1);
+        assert_eq!(rt; plain.apply(&table, &key, &Op::Del)?, Reply::Stored);
+        assert_eq!(rt; plain.count(), 0);
+        assert_eq!(rt; plain.apply(&table, &key, &Op::Del)?, Reply::Absent);
+        Ok(())
+    }
+
+    // Where an allocation fails, the place has what it had, and the operation is done then.
+    #[test]
+    fn a_want_of_memory_leaves_the_map(rt: HostRuntime) -> Result<(), Fail> {
+        let (table, key) = (table(b"stock")?, key(b"bolt")?);
+        let add = Op::Add(12);
+        let mut plain = PlainMap::new(rt.alloc());
+        if plain.apply(&table, &key, &add).is_err() {
+            assert_eq!(rt; plain.count(), 0);
+            assert_eq!(rt; plain.apply(&table, &key, &add)?, Reply::Sum(12));
+        }
+        if plain.apply(&table, &key, &add).is_err() {
+            assert_eq!(rt; plain.apply(&table, &key, &add)?, Reply::Sum(24));
+        }
+        assert_eq!(rt; plain.count(), 1);
+        assert_eq!(rt;
+            plain.apply(&table, &key, &Op::Get)?,
+            Reply::Found(value(rt.alloc(), b"24")?)
+        );
+        Ok(())
+    }
+
+    #[test]
     fn a_key_in_another_table_is_another_place(rt: HostRuntime) -> Result<(), Fail> {
         let (stock, orders, key) = (table(b"stock")?, table(b"orders")?, key(b"bolt")?);
         let put = Op::Put(value(rt.alloc(), b"12")?);

@@ -181,6 +181,29 @@ fn lists_keep_their_items(rt: HostRuntime) -> Result<(), Fail> {
     Ok(())
 }
 
+#[test]
+fn room_that_was_made_is_used(rt: HostRuntime) -> Result<(), Fail> {
+    let mut list: GrowingList<u16> = GrowingList::new(rt.alloc());
+    list.reserve(2)?;
+    list.push_reserved(5);
+    list.push_reserved(7);
+    assert_eq!(rt; list.as_slice(), [5, 7].as_slice());
+
+    let mut log: AppendOnlyList<u16> = AppendOnlyList::new(rt.alloc());
+    log.reserve(1)?;
+    log.push_reserved(9);
+    assert_eq!(rt; log.as_slice(), [9].as_slice());
+    Ok(())
+}
+
+#[test]
+fn bytes_are_copied_into_a_text(rt: HostRuntime) -> Result<(), Fail> {
+    let text = Text::copy_of(rt.alloc(), b"1 BEGIN")?;
+    assert_eq!(rt; text.bytes(), b"1 BEGIN".as_slice());
+    assert!(rt; Text::copy_of(rt.alloc(), b"")?.is_empty());
+    Ok(())
+}
+
 // More items than any memory has.
 const TOO_MANY: usize = usize::MAX;
 
