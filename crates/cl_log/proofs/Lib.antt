@@ -1,3 +1,4 @@
+pub mod Cut
 pub mod Entries
 pub mod KindFacts
 pub mod Lawful
@@ -12,3 +13,4 @@ pub mod Settled
 pub mod Store
 pub mod Txn
 pub mod Unended
+pub mod UnendedOrder

@@ -11,7 +11,7 @@ use Rattle.cl_types.specs.Modes.{stronger, is_conflict}
 use Rattle.cl_types.proofs.Modes.{stronger-none, stronger-exclusive}
 use Rattle.cl_types.specs.Places.{Place}
 use Rattle.cl_log.specs.declared.records.LogRec.{LogRec}
-use Rattle.cl_log.specs.declared.records.LogRec.TheVariants.{Touch, Set, Add, Comp, Prepared, End, Decide}
+use Rattle.cl_log.specs.declared.records.LogRec.TheVariants.{Touch, Set, Add}
 use Rattle.cl_log.specs.Entry.{Entry}
 use Rattle.cl_log.specs.Kind.{txn_of, is_of, opens, is_end, can_be_undone, writes}
 use Rattle.cl_log.specs.Locks.{mode_at, mode_after, strongest_mode, locks_of_log, takes_lock, locks_after, HasNoConflict}
@@ -19,7 +19,7 @@ use Rattle.cl_log.specs.Open.{has_begun, has_ended, is_open}
 use Rattle.cl_log.proofs.Open.{is_open_push-own, is_open_push-other, is_open_push-end}
 
 -- what takes no lock locks no place
-mode_at-none : (place : Place) (content : LogRec) → takes_lock content ≡ false → mode_at place content ≡ None
+pub mode_at-none : (place : Place) (content : LogRec) → takes_lock content ≡ false → mode_at place content ≡ None
 mode_at-none place (Touch txn table key mode) h = absurd (true≢false h)
 mode_at-none place (Set txn table key before old new) h = absurd (true≢false h)
 mode_at-none place (Add txn table key before amount) h = absurd (true≢false h)

@@ -21,7 +21,7 @@ pub or_false : (b : Bool) → (b || false) ≡ b
 or_false true = refl
 or_false false = refl
 
-cong_and : {a b c d : Bool} → a ≡ b → c ≡ d → (a && c) ≡ (b && d)
+pub cong_and : {a b c d : Bool} → a ≡ b → c ≡ d → (a && c) ≡ (b && d)
 cong_and {a} {b} {c} {d} e f = ap (λ x. x && c) e ∙ ap (λ x. b && x) f
 
 numbers_of_one : (b : Bool) (entry : Entry) → map (λ (e : Entry). e.number) (cond b (entry ∷ []) []) ≡ cond b (entry.number ∷ []) []

@@ -7,7 +7,7 @@ use Rattle.std.proofs.lemmas.Bool.{and_left, and_right, and_parts, cond-true, co
 use Rattle.cl_types.specs.declared.operations.TxnId.{TxnId}
 use Rattle.cl_types.proofs.Transactions.{same_txn-true, same_txn-false}
 use Rattle.cl_log.specs.declared.records.LogRec.{LogRec}
-use Rattle.cl_log.specs.declared.records.LogRec.TheVariants.{Touch, Set, Add, Comp, Prepared, End, Decide}
+use Rattle.cl_log.specs.declared.records.LogRec.TheVariants.{Set, Add}
 use Rattle.cl_log.proofs.Entries.{IsNumberedFrom-append}
 use Rattle.cl_log.specs.Entry.{Entry, numbered, IsNumberedFrom, content_at}
 use Rattle.cl_log.specs.Kind.{txn_of, is_of, can_be_undone, undoes}

@@ -262,7 +262,8 @@ meets_guard front records entry rest more vs place h k both t =
 -- no third case of the guard comes: each write finds its number before, or at least its own number
 pub redone_meets_guard : (log front records : List Entry) (entry : Entry) (rest : List Entry) (copy : Place → Stored) → IsNumberedFrom 1 log → IsConsistentLog log →
     log ≡ front ++ records ++ entry ∷ rest → IsCopyAfter log front copy → (place : Place) → writes place entry.content ≡ true →
-    ((redone records place (copy place)).0 ≡ number_before entry.content) ⊎ (entry.number ≤ (redone records place (copy place)).0)
+    (number_before entry.content < entry.number)
+    × (((redone records place (copy place)).0 ≡ number_before entry.content) ⊎ (entry.number ≤ (redone records place (copy place)).0))
 redone_meets_guard log front records entry rest copy h c whole is_copy place t =
     let left = redone_leaves_later log front records copy h c (entry ∷ rest, whole) is_copy place in
     let carried = EachAfter-at CarriesNumberBefore (front ++ records) entry rest (subst (EachAfter CarriesNumberBefore []) whole c) place t in
@@ -270,8 +271,11 @@ redone_meets_guard log front records entry rest copy h c whole is_copy place t =
     let found = ap (λ stored. later stored (store_of_log (front ++ records) place)) e in
     let both : records ++ entry ∷ rest ≡ more ++ vs = append_cancel front _ _ (sym (append_assoc front records (entry ∷ rest)) ∙ sym whole ∙ ev ∙ append_assoc front more vs) in
     let numbers = (IsNumberedFrom-append 1 (front ++ more) vs (subst (IsNumberedFrom 1) ev h)).0 in
-    elim (meets_guard front records entry rest more vs place numbers
-    (IsNumberedFrom-append 1 (front ++ records) (entry ∷ rest) (subst (IsNumberedFrom 1) whole h)).0 both t) [
-      | inl q ↦ inl (ap (λ (q : Stored). q.0) (left ∙ found ∙ q) ∙ carried)
-      | inr m ↦ inr (let q = ap (λ (q : Stored). q.0) (left ∙ found) in omega (arith, q, m))
-    ]
+    let parts = IsNumberedFrom-append 1 (front ++ records) (entry ∷ rest) (subst (IsNumberedFrom 1) whole h) in
+    let below = number-store_of_log-lt 1 (front ++ records) place (omega arith) parts.0 in (
+      omega (arith, below, parts.1.0, carried),
+      elim (meets_guard front records entry rest more vs place numbers parts.0 both t) [
+        | inl q ↦ inl (ap (λ (q : Stored). q.0) (left ∙ found ∙ q) ∙ carried)
+        | inr m ↦ inr (let q = ap (λ (q : Stored). q.0) (left ∙ found) in omega (arith, q, m))
+      ],
+    )

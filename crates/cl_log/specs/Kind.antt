@@ -60,7 +60,7 @@ writes place (Add txn table key before amount) = same_place (table, key) place
 writes place (Comp txn table key before undone form) = same_place (table, key) place
 writes place content = false
 
--- the state number that a write's record had before it
+-- the state number that a write's record had before it, and 0 for other kinds
 abbrev pub number_before : LogRec → ℕ
 number_before (Set txn table key before old new) = before
 number_before (Add txn table key before amount) = before

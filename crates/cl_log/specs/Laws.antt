@@ -1,15 +1,15 @@
 -- What holds of every log: how what follows from it changes with one more record, and what undoing and redoing keep.
-use Rattle.std.specs.Prelude.{◌≡◌, ◌≢◌, ℕ, ◌+◌, ◌≤◌, ◌⊎◌, true, false, List, [], ◌∷◌, ◌++◌, length, Some}
+use Rattle.std.specs.Prelude.{◌≡◌, ◌≢◌, ℕ, ◌+◌, ◌<◌, ◌≤◌, ◌⊎◌, true, false, List, [], ◌∷◌, ◌++◌, length, Some}
 use Rattle.std.specs.List.{IsDistinct}
 use Rattle.cl_types.specs.declared.operations.Mode.TheVariants.{Exclusive}
 use Rattle.cl_types.specs.declared.operations.TxnId.{TxnId}
 use Rattle.cl_types.specs.Places.{Place, Stored}
 use Rattle.cl_types.specs.Transactions.{same_txn}
-use Rattle.cl_log.specs.Entry.{Entry, IsNumberedFrom, BeginsWith}
+use Rattle.cl_log.specs.Entry.{Entry, IsNumberedFrom, EachAfter, BeginsWith}
 use Rattle.cl_log.specs.Kind.{txn_of, is_end, is_mark, can_be_undone, writes, number_before}
-use Rattle.cl_log.specs.Lawful.{IsLawfulLog}
+use Rattle.cl_log.specs.Lawful.{UndoesInOrder}
 use Rattle.cl_log.specs.Locks.{takes_lock, locks_after, locks_of_log, HasNoConflict}
-use Rattle.cl_log.specs.Open.{has_ended, is_open, is_among, is_under_way, stage_of, low_of, unended_of}
+use Rattle.cl_log.specs.Open.{has_ended, is_open, is_among, is_under_way, stage_of, chain_of, low_of, unended_of}
 use Rattle.cl_log.specs.Rest.{is_undone, times_undone, rest_to_undo, undo_of}
 use Rattle.cl_log.specs.Settled.{settled, IsReversible}
 use Rattle.cl_log.specs.Store.{stored_after, store_of_log, redone, later, IsConsistentLog, IsCopyAfter}
@@ -26,11 +26,12 @@ RedoLeavesLater = (log first records : List Entry) (copy : Place → Stored) →
     BeginsWith log (first ++ records) → IsCopyAfter log first copy → (place : Place) →
     redone records place (copy place) ≡ later (copy place) (store_of_log (first ++ records) place)
 
--- on the way each write finds the number that its record had before it, or at least its own number
+-- on the way each write, whose number before is below its own, finds that number before, or at least its own
 abbrev pub RedoMeetsGuard : Type 0
 RedoMeetsGuard = (log first records : List Entry) (entry : Entry) (rest : List Entry) (copy : Place → Stored) → IsNumberedFrom 1 log → IsConsistentLog log →
     log ≡ first ++ records ++ entry ∷ rest → IsCopyAfter log first copy → (place : Place) → writes place entry.content ≡ true →
-    ((redone records place (copy place)).0 ≡ number_before entry.content) ⊎ (entry.number ≤ (redone records place (copy place)).0)
+    (number_before entry.content < entry.number)
+    × (((redone records place (copy place)).0 ≡ number_before entry.content) ⊎ (entry.number ≤ (redone records place (copy place)).0))
 
 -- one more record changes the locks of its own transaction alone
 abbrev pub LocksFollowRecords : Type 0
@@ -56,15 +57,15 @@ UndoKeepsSettled = (entries : List Entry) (n : ℕ) (txn : TxnId) (first : Entry
     UndoStep entries txn first others entry → is_open entries txn ≡ true → HasNoConflict entries →
     (history : List TxnId) → is_among txn history ≡ false → (place : Place) → settled (entries ++ entry ∷ []) history place ≡ settled entries history place
 
--- in a log that follows the rules each write is undone once at most
+-- where each compensation undoes the first of the rest of its transaction, each write is undone once at most
 abbrev pub WritesUndoneOnce : Type 0
-WritesUndoneOnce = (entries : List Entry) → IsLawfulLog entries → (number : ℕ) → times_undone entries number ≤ 1
+WritesUndoneOnce = (entries : List Entry) → UndoesInOrder entries → (number : ℕ) → times_undone entries number ≤ 1
 
 -- what else leaves the settled map
 pub data IsSettling (entries : List Entry) (history : List TxnId) (entry : Entry) : Type 0 where
   -- a Touch, Prepared or Decide
   mark : is_mark entry.content ≡ true → IsSettling entries history entry
-  -- a write that can be undone of a running transaction that is not in the history
+  -- a reversible Set or Add, not yet undone, of a transaction without End that is not in the history
   write : can_be_undone entry.content ≡ true → has_ended entries (txn_of entry.content) ≡ false → is_among (txn_of entry.content) history ≡ false →
       is_undone entries entry.number ≡ false → IsReversible entries entry.content → IsSettling entries history entry
   -- the End of a transaction of the history, or of one with nothing left to undo
@@ -87,6 +88,11 @@ LowIsLeastOpen = (entries : List Entry) (n : ℕ) → IsNumberedFrom n entries �
 abbrev pub UnendedAreOpen : Type 0
 UnendedAreOpen = (entries : List Entry) → IsDistinct same_txn (unended_of entries) × ((txn : TxnId) → is_among txn (unended_of entries) ≡ is_open entries txn)
 
+-- they stand by their first log numbers: of two, the one that is listed first has the lesser number
+abbrev pub UnendedByFirstNumber : Type 0
+UnendedByFirstNumber = (entries : List Entry) (n : ℕ) (front middle back : List TxnId) (a b : TxnId) (i j : ℕ) (is js : List ℕ) → IsNumberedFrom n entries →
+    unended_of entries ≡ front ++ a ∷ (middle ++ b ∷ back) → chain_of entries a ≡ i ∷ is → chain_of entries b ≡ j ∷ js → i < j
+
 -- a transaction is open exactly where its stage is running or prepared
 abbrev pub OpenByStage : Type 0
 OpenByStage = (entries : List Entry) (txn : TxnId) → is_open entries txn ≡ is_under_way (stage_of entries txn)
@@ -96,3 +102,10 @@ abbrev pub HistorySettlesLocks : Type 0
 HistorySettlesLocks = (entries : List Entry) (history : List TxnId) (txn : TxnId) (place : Place) →
     (locks_of_log entries txn place ≢ Some Exclusive → settled entries (history ++ txn ∷ []) place ≡ settled entries history place)
     × (HasNoConflict entries → is_among txn history ≡ true → locks_of_log entries txn place ≡ Some Exclusive → settled entries history place ≡ (store_of_log entries place).1)
+
+-- a log of which no more is cut off than what is below its low number keeps its locks, where each Touch, Set or Add is of a transaction
+-- without End before it
+abbrev pub CutKeepsLocks : Type 0
+CutKeepsLocks = (entries below kept : List Entry) (n : ℕ) (txn : TxnId) (place : Place) → IsNumberedFrom n entries →
+    EachAfter (λ seen entry. takes_lock entry.content ≡ true → has_ended seen (txn_of entry.content) ≡ false) [] entries →
+    entries ≡ below ++ kept → n + length below ≤ low_of entries (n + length entries) → locks_of_log kept txn place ≡ locks_of_log entries txn place

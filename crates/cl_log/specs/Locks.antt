@@ -6,7 +6,7 @@ use Rattle.cl_types.specs.declared.operations.TxnId.{TxnId}
 use Rattle.cl_types.specs.Modes.{stronger, is_conflict}
 use Rattle.cl_types.specs.Places.{Place, same_place}
 use Rattle.cl_log.specs.declared.records.LogRec.{LogRec}
-use Rattle.cl_log.specs.declared.records.LogRec.TheVariants.{Touch, Set, Add, Comp, Prepared, End, Decide}
+use Rattle.cl_log.specs.declared.records.LogRec.TheVariants.{Touch, Set, Add}
 use Rattle.cl_log.specs.Entry.{Entry}
 use Rattle.cl_log.specs.Kind.{is_of, is_end}
 use Rattle.cl_log.specs.Open.{is_open}
@@ -37,7 +37,7 @@ takes_lock (Set txn table key before old new) = true
 takes_lock (Add txn table key before amount) = true
 takes_lock content = false
 
--- the locks after one more record: an End frees the locks of its transaction, what takes a lock makes it as strong as it asks
+-- the locks after one more record: an End frees the locks of its transaction, what takes a lock makes it at least as strong as it asks
 abbrev pub locks_after : (TxnId → Place → Option Mode) → Entry → TxnId → Place → Option Mode
 locks_after locks entry txn place =
     if is_of txn entry.content then (if is_end entry.content then None else stronger (locks txn place) (mode_at place entry.content)) else locks txn place

@@ -1,5 +1,5 @@
 -- Which transactions are open in a log, how far each is, and where the first open one begins.
-use Rattle.std.specs.Prelude.{ℕ, Bool, true, false, ◌&&◌, not, IsTrue, if◌then◌else◌, List, [], ◌∷◌, ◌++◌, map, filter, fold}
+use Rattle.std.specs.Prelude.{ℕ, Bool, true, false, ◌&&◌, not, if◌then◌else◌, List, [], ◌∷◌, ◌++◌, map, filter, fold}
 use Rattle.std.specs.Option.{option_map_or}
 use Rattle.std.specs.List.{list_any, find}
 use Rattle.cl_types.specs.declared.operations.TxnId.{TxnId}
@@ -31,9 +31,6 @@ has_ended entries txn = has_record is_end txn entries
 -- a transaction is open where it has a Touch, Set, Add or Prepared and no End
 abbrev pub is_open : List Entry → TxnId → Bool
 is_open entries txn = has_begun entries txn && not (has_ended entries txn)
-
-abbrev pub IsOpen : List Entry → TxnId → Type 0
-IsOpen entries txn = IsTrue (is_open entries txn)
 
 -- how far a transaction is
 abbrev pub stage_of : List Entry → TxnId → Stage

@@ -32,7 +32,8 @@ abbrev pub first_number : List Entry → Option ℕ
 first_number [] = None
 first_number (entry ∷ entries) = Some entry.number
 
--- the undoing of the write of a number, where its record has the state number now: a Set writes the old image, an Add subtracts the amount
+-- the undoing of the write of a number, where its record has the state number now: a Set writes the old image, an Add
+-- subtracts the amount, and a record of another kind stays itself
 abbrev pub undo_of : LogRec → ℕ → ℕ → LogRec
 undo_of (Touch txn table key mode) number now = Touch txn table key mode
 undo_of (Set txn table key before old new) number now = Comp txn table key now number (Image old)

@@ -3,7 +3,7 @@ use Rattle.std.specs.Prelude.{◌≡◌, true, ℕ, Bool, ◌&&◌, not, if◌th
 use Rattle.cl_types.specs.declared.operations.TxnId.{TxnId}
 use Rattle.cl_types.specs.Places.{Place}
 use Rattle.cl_log.specs.declared.records.LogRec.{LogRec}
-use Rattle.cl_log.specs.declared.records.LogRec.TheVariants.{Touch, Set, Add, Comp, Prepared, End, Decide}
+use Rattle.cl_log.specs.declared.records.LogRec.TheVariants.{Set, Add}
 use Rattle.cl_log.specs.Entry.{Entry}
 use Rattle.cl_log.specs.Kind.{txn_of, writes}
 use Rattle.cl_log.specs.Open.{is_open, is_among}

@@ -6,11 +6,11 @@ use Rattle.cl_types.specs.Places.{Place, Stored}
 use Rattle.cl_log.specs.declared.records.Form.{Form}
 use Rattle.cl_log.specs.declared.records.Form.TheVariants.{Image, Amount}
 use Rattle.cl_log.specs.declared.records.LogRec.{LogRec}
-use Rattle.cl_log.specs.declared.records.LogRec.TheVariants.{Touch, Set, Add, Comp, Prepared, End, Decide}
+use Rattle.cl_log.specs.declared.records.LogRec.TheVariants.{Set, Add, Comp}
 use Rattle.cl_log.specs.Entry.{Entry, EachAfter, BeginsWith}
 use Rattle.cl_log.specs.Kind.{writes, number_before}
 
--- a value less an amount
+-- a value less an amount: an absent value counts as 0, and what is no number, or would be out of range, stays
 abbrev pub less : ℤ → Option (List ℕ) → Option (List ℕ)
 less amount value = plain_value (PlainAdd (neg_ℤ amount)) value
 

@@ -1,5 +1,5 @@
 //! What a record says of its transaction.
-ghost use Rattle.std.specs.Prelude.{◌≡◌, IfOk};
+ghost use Rattle.std.specs.Prelude.{◌≡◌};
 ghost use Rattle.cl_types.specs.Transactions.{same_txn};
 ghost use Rattle.cl_log.specs.Kind.{txn_of, is_of, opens, is_prepared, is_end, can_be_undone, undoes};
 

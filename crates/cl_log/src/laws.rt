@@ -1,64 +1,92 @@
 //! What holds of every log. Each function does nothing: its contract is a law of the definitions.
-ghost use Rattle.cl_log.specs.Laws.{StoreFollowsRecords, RedoLeavesLater, RedoMeetsGuard, LocksFollowRecords, UndoTakesFirst, UndoKeepsSettled, WritesUndoneOnce, RecordsKeepSettled, HistorySettlesLocks, UnendedAreOpen, OpenByStage, LowIsLeastOpen};
+ghost use Rattle.cl_log.specs.Laws.{StoreFollowsRecords, RedoLeavesLater, RedoMeetsGuard, LocksFollowRecords, UndoTakesFirst, UndoKeepsSettled, WritesUndoneOnce, RecordsKeepSettled, HistorySettlesLocks, UnendedAreOpen, UnendedByFirstNumber, OpenByStage, LowIsLeastOpen, CutKeepsLocks};
+ghost use Rattle.std.specs.Prelude.{◌≡◌, ◌+◌, ◌≤◌, length};
+ghost use Rattle.cl_log.specs.Entry.{IsNumberedFrom};
+ghost use Rattle.cl_log.specs.Log.{entries, first_kept, next_number};
+
+use crate::Log;
+
+/// The numbers of a log's records count up by one from the first that is kept, which is at least 1,
+/// to the one below the next.
+pub fn records_are_numbered(log: &Log)
+    ensures positive { 1 ≤ first_kept log.now }
+    ensures numbers { IsNumberedFrom (first_kept log.now) (entries log.now) }
+    ensures next { first_kept log.now + length (entries log.now) ≡ next_number log.now }
+{}
 
 /// One more record changes the store at the place of its write alone.
 pub fn store_follows_records()
     ensures { StoreFollowsRecords }
 {}
 
-/// Redo by guard on a copy leaves at each place the later of what the copy had and what the log
-/// left.
+/// Redo by guard, on a copy of a consistent log numbered from 1, leaves at each place the later of
+/// what the copy had and what the log left.
 pub fn redo_leaves_later()
     ensures { RedoLeavesLater }
 {}
 
-/// Each write that is redone by guard on a copy finds the number that its record had before it, or
-/// at least its own number.
+/// Each write that is redone by guard, on a copy of a consistent log numbered from 1, finds the
+/// number that its record had before it, or at least its own number, which is above the one before.
 pub fn redo_meets_guard()
     ensures { RedoMeetsGuard }
 {}
 
-/// One more record changes the locks of its own transaction alone.
+/// One more record changes the locks of its own transaction alone, where a Touch, Set or Add is of a
+/// transaction without End.
 pub fn locks_follow_records()
     ensures { LocksFollowRecords }
 {}
 
-/// An undo step takes the first of a transaction's rest, and nothing of another's.
+/// In a numbered log an undo step takes the first of a transaction's rest, and nothing of another's.
 pub fn undo_takes_first()
     ensures { UndoTakesFirst }
 {}
 
-/// An undo step leaves the settled map under each history without the transaction.
+/// In a numbered log an undo step of an open transaction, where no locks of the log conflict, leaves
+/// the settled map under each history without the transaction.
 pub fn undo_keeps_settled()
     ensures { UndoKeepsSettled }
 {}
 
-/// In a log that follows the rules each write is undone once at most.
+/// In a log whose compensations each undo the first of the rest of their transaction, each write is
+/// undone once at most.
 pub fn writes_undone_once()
     ensures { WritesUndoneOnce }
 {}
 
-/// Marks, writes of running transactions outside the history, and lawful Ends leave the settled map.
+/// What leaves the settled map: a Touch, Prepared or Decide; a reversible Set or Add, not yet undone,
+/// of a transaction without End that is not in the history; and the End of a member of the history,
+/// or of a transaction with nothing left to undo.
 pub fn records_keep_settled()
     ensures { RecordsKeepSettled }
 {}
 
-/// The low number is the least number of a record of an open transaction, or the next number.
+/// In a numbered log the low number is the least number of a record of an open transaction, or the
+/// next number.
 pub fn low_is_least_open()
     ensures { LowIsLeastOpen }
 {}
 
-/// A new member of the history settles the places that it locks exclusively, and no others.
+/// A new member of the history changes the settled map at places that it locks exclusively alone;
+/// where a member has such a lock, and no locks of the log conflict, the settled map is the store.
 pub fn history_settles_locks()
     ensures { HistorySettlesLocks }
 {}
 
-/// The unended transactions are the open ones, each once.
+/// The unended transactions are the open ones, each once, and in a numbered log they stand by their
+/// first log numbers.
 pub fn unended_are_open()
-    ensures { UnendedAreOpen }
+    ensures open { UnendedAreOpen }
+    ensures order { UnendedByFirstNumber }
 {}
 
 /// A transaction is open exactly where its stage is running or prepared.
 pub fn open_by_stage()
     ensures { OpenByStage }
+{}
+
+/// A numbered log keeps its locks where records below its low number are cut off, and where each
+/// Touch, Set or Add is of a transaction without End.
+pub fn cut_keeps_locks()
+    ensures { CutKeepsLocks }
 {}

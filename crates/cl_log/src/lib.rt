@@ -12,9 +12,10 @@ mod tests;
 mod undo;
 
 pub use laws::{
-    history_settles_locks, locks_follow_records, low_is_least_open, open_by_stage,
-    records_keep_settled, redo_leaves_later, redo_meets_guard, store_follows_records,
-    undo_keeps_settled, undo_takes_first, unended_are_open, writes_undone_once,
+    cut_keeps_locks, history_settles_locks, locks_follow_records, low_is_least_open, open_by_stage,
+    records_are_numbered, records_keep_settled, redo_leaves_later, redo_meets_guard,
+    store_follows_records, undo_keeps_settled, undo_takes_first, unended_are_open,
+    writes_undone_once,
 };
 pub use log::{Log, NumberList, TxnList};
 pub use records::{Form, LogRec};

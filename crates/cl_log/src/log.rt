@@ -14,22 +14,24 @@ pub type TxnList = GrowingList<TxnId>;
 
 /// A log: records in order, whose numbers count up by one.
 ///
-/// Contracts see the records that are kept with their numbers (`entries`), the number of the next
-/// (`next_number`), and for how many more there is room (`spare`).
+/// Contracts see the records that are kept with their numbers (`entries`), the number of the first
+/// that is kept (`first_kept`), the number of the next (`next_number`), and for how many more there
+/// is room (`spare`).
 #[derive(Debug, Drop)]
 pub struct Log {
     records: GrowingList<LogRec>,
     first: u64,
+    alloc: Global,
     ghost counts_from_one: { 1 ≤ first },
     ghost has_numbers: { first + length (items records) < 2 ^ 64 },
 }
 
-#[tactic(auto, unfolding(crate::specs::Log::entries, crate::specs::Log::next_number, crate::specs::Log::spare))]
+#[tactic(auto, unfolding(crate::specs::Log::entries, crate::specs::Log::first_kept, crate::specs::Log::next_number, crate::specs::Log::spare))]
 impl Log {
     ghost use Rattle.std.specs.Prelude.{◌≡◌, ◌+◌, ◌-◌, ◌^◌, ◌≤◌, [], ◌∷◌, ◌++◌, OnOk, IsOk, IfOk};
     ghost use Rattle.cl_types.specs.GrowingList.{items};
     ghost use Rattle.std.specs.Option.{option_copied};
-    ghost use Rattle.cl_log.specs.Log.{entries, next_number, spare};
+    ghost use Rattle.cl_log.specs.Log.{entries, first_kept, next_number, spare};
     ghost use Rattle.cl_log.specs.Entry.{content_at};
     ghost use Rattle.cl_log.specs.Open.{stage_of, chain_of, low_of, unended_of};
     ghost use Rattle.cl_log.specs.Rest.{rest_to_undo, first_number};
@@ -38,17 +40,20 @@ impl Log {
     pub fn new(alloc: Global, first: u64) -> Log
         requires { 1 ≤ first }
         ensures entries { entries result ≡ [] }
+        ensures first { first_kept result ≡ first }
         ensures next { next_number result ≡ first }
     {
         Log {
             records: GrowingList::new(alloc),
             first,
+            alloc,
         }
     }
 
     /// Makes room for `count` more records. The log stays, whatever the answer.
     pub fn reserve(&mut self, count: usize) -> Result<(), NoMemory>
         ensures entries { entries self.new ≡ entries self.old }
+        ensures first { first_kept self.new ≡ first_kept self.old }
         ensures next { next_number self.new ≡ next_number self.old }
         ensures ok { OnOk result (count ≤ spare self.new) }
         ensures roomy { count ≤ spare self.old → IsOk result }
@@ -79,6 +84,7 @@ impl Log {
         requires numbers { next_number self.old ≤ 2 ^ 62 }
         ensures number { result ≡ next_number self.old }
         ensures entries { entries self.new ≡ entries self.old ++ record { number = result; content = entry } ∷ [] }
+        ensures first { first_kept self.new ≡ first_kept self.old }
         ensures next { next_number self.new ≡ result + 1 }
         ensures kept { spare self.old ≤ spare self.new + 1 }
     {
@@ -114,17 +120,17 @@ impl Log {
     }
 
     /// The numbers of all records of a transaction that are kept, of whichever kind, in order.
-    pub fn chain(&self, alloc: Global, txn: TxnId) -> Result<NumberList, NoMemory>
+    pub fn chain(&self, txn: TxnId) -> Result<NumberList, NoMemory>
         ensures { IfOk result (λ numbers. items numbers ≡ chain_of (entries self.now) txn) }
     {
-        scans::chain_of(alloc, self.records.as_slice(), self.first, txn)
+        scans::chain_of(self.alloc, self.records.as_slice(), self.first, txn)
     }
 
     /// The open transactions, by first log number.
-    pub fn unended(&self, alloc: Global) -> Result<TxnList, NoMemory>
+    pub fn unended(&self) -> Result<TxnList, NoMemory>
         ensures { IfOk result (λ txns. items txns ≡ unended_of (entries self.now)) }
     {
-        scans::open_txns(alloc, self.records.as_slice())
+        scans::open_txns(self.alloc, self.records.as_slice())
     }
 
     /// The number of a transaction's last write that is not undone, or `None` where nothing is left

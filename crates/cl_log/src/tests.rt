@@ -1,5 +1,5 @@
 //! A log with records of all seven kinds, what follows from it worked out by hand.
-use crate::{Form, Log, LogRec, Stage, undo_of};
+use crate::{Form, Log, LogRec, Stage, records_are_numbered, undo_of};
 use cl_types::{Key, Mode, NoMemory, TableName, TxnId, Value};
 use std::alloc::Global;
 use std::test::Fail;
@@ -78,29 +78,21 @@ fn example(alloc: Global) -> Result<Log, NoMemory> {
 fn stages_and_chains(rt: HostRuntime) -> Result<(), Fail> {
     let log = example(rt.alloc())?;
     assert_eq!(rt; log.last(), 8);
+    records_are_numbered(&log);
     assert_eq!(rt; log.stage(FIRST), Stage::Running);
     assert_eq!(rt; log.stage(SECOND), Stage::Ended);
     assert_eq!(rt; log.stage(THIRD), Stage::Prepared);
     assert_eq!(rt; log.stage(DECIDED), Stage::Unknown);
-    assert_eq!(rt;
-        log.chain(rt.alloc(), FIRST)?.as_slice(),
-        [1, 3, 5].as_slice()
-    );
-    assert_eq!(rt;
-        log.chain(rt.alloc(), SECOND)?.as_slice(),
-        [2, 8].as_slice()
-    );
-    assert_eq!(rt; log.chain(rt.alloc(), DECIDED)?.as_slice(), [4].as_slice());
+    assert_eq!(rt; log.chain(FIRST)?.as_slice(), [1, 3, 5].as_slice());
+    assert_eq!(rt; log.chain(SECOND)?.as_slice(), [2, 8].as_slice());
+    assert_eq!(rt; log.chain(DECIDED)?.as_slice(), [4].as_slice());
     Ok(())
 }
 
 #[test]
 fn the_open_ones_and_their_rests(rt: HostRuntime) -> Result<(), Fail> {
     let log = example(rt.alloc())?;
-    assert_eq!(rt;
-        log.unended(rt.alloc())?.as_slice(),
-        [FIRST, THIRD].as_slice()
-    );
+    assert_eq!(rt; log.unended()?.as_slice(), [FIRST, THIRD].as_slice());
     assert_eq!(rt; log.low(), 1);
     assert_eq!(rt; log.rest_to_undo(FIRST), Some(1));
     assert_eq!(rt; log.rest_to_undo(SECOND), None);
@@ -130,7 +122,39 @@ fn a_rollback_ends_where_nothing_is_left(rt: HostRuntime) -> Result<(), Fail> {
     assert_eq!(rt; log.rest_to_undo(FIRST), None);
     assert_eq!(rt; add(&mut log, LogRec::End(FIRST, false))?, 7);
     assert_eq!(rt; log.low(), 8);
-    assert!(rt; log.unended(rt.alloc())?.is_empty());
+    assert!(rt; log.unended()?.is_empty());
+    Ok(())
+}
+
+// The undoing of the write of a number.
+fn undone(alloc: Global, entry: &LogRec, number: u64) -> Result<LogRec, NoMemory> {
+    match entry {
+        LogRec::Set(..) => undo_of(alloc, entry, number, number),
+        LogRec::Add(..) => undo_of(alloc, entry, number, number),
+        _ => Err(NoMemory),
+    }
+}
+
+#[test]
+fn values_are_copied_and_come_back(rt: HostRuntime) -> Result<(), Fail> {
+    let alloc = rt.alloc();
+    let (table, key) = place(b"a")?;
+    let (old, new) = (Value::read(alloc, b"5")?, Value::read(alloc, b"6")?);
+    let set = LogRec::Set(FIRST, table, key, 3, old, new);
+    assert!(rt; set.copy(alloc)? == set);
+    let (table, key) = place(b"a")?;
+    let image = Form::Image(Value::read(alloc, b"5")?);
+    let wanted = LogRec::Comp(FIRST, table, key, 4, 4, image);
+    assert!(rt; undone(alloc, &set, 4)? == wanted);
+    assert!(rt; wanted.copy(alloc)? == wanted);
+
+    let (table, key) = place(b"a")?;
+    let add = LogRec::Add(FIRST, table, key, 4, 2);
+    assert!(rt; add.copy(alloc)? == add);
+    let (table, key) = place(b"a")?;
+    let wanted = LogRec::Comp(FIRST, table, key, 5, 5, Form::Amount(2));
+    assert!(rt; undone(alloc, &add, 5)? == wanted);
+    assert!(rt; Form::Amount(2).copy(alloc)? == Form::Amount(2));
     Ok(())
 }
 

@@ -1,5 +1,5 @@
 -- Records that are taken one after another.
-use Rattle.std.proofs.Common.{◌≡◌, ◌≤◌, ◌⊎◌, true, cond, eqb, ◌&&◌, List, [], ◌∷◌, ◌++◌, Option, None, sym, ap, ◌∙◌, subst, inl, inr}
+use Rattle.std.proofs.Common.{◌≡◌, ◌≤◌, ◌⊎◌, cond, eqb, ◌&&◌, List, [], ◌∷◌, ◌++◌, Option, None, sym, ap, ◌∙◌, subst, inl, inr}
 use Rattle.std.proofs.lemmas.Bool.{cond-true, cases_Bool, eq-eqb, and_from}
 use Rattle.std.proofs.lemmas.List.{append_assoc, append-nil}
 use Rattle.cl_types.specs.declared.operations.Mode.{Mode}
@@ -12,7 +12,7 @@ use Rattle.cl_log.specs.Locks.{mode_at}
 use Rattle.cl_log.specs.Store.{written, redo_by_guard, redone, later, store_of_log, CarriesNumberBefore, IsConsistentLog, IsCopyAfter}
 use Rattle.cl_log.proofs.Locks.{locks_of_log-nil, locks_of_log_push}
 use Rattle.cl_log.proofs.Store.{store_of_log-nil, store_of_log_other, store_of_log_written, redone_leaves_later, redone_meets_guard}
-use Rattle.cl_redo.specs.Condition.{IsUnended}
+use Rattle.cl_redo.specs.Condition.{MeetsWrite, IsUnended}
 use Rattle.cl_redo.specs.Laws.{TakesInTurn}
 use Rattle.cl_redo.specs.Redo.{IsStoreOf, AreLocksOf}
 
@@ -28,28 +28,46 @@ redone_next front entry place carries =
           ∙ sym (store_of_log_other front entry place f)
     ]
 
-pub taken_from : (front records : List Entry) (stored stored_last : Place → Stored) (held held_last : TxnId → Place → Option Mode) →
-    EachAfter CarriesNumberBefore front records → EachAfter (λ seen entry. IsUnended seen entry.content) front records →
-    IsStoreOf stored front → AreLocksOf held front → TakesInTurn records stored held stored_last held_last →
-    IsStoreOf stored_last (front ++ records) × AreLocksOf held_last (front ++ records)
-taken_from front [] stored stored_last held held_last carries unended is_store are_locks takes =
-    subst (λ es. IsStoreOf stored_last es × AreLocksOf held_last es) (sym (append-nil front))
-    ((λ place. takes.0 place ∙ is_store place), (λ txn place. takes.1 txn place ∙ are_locks txn place))
-taken_from front (entry ∷ records) stored stored_last held held_last carries unended is_store are_locks (stored_next, held_next, by_guard, by_lock, takes) =
-    subst (λ es. IsStoreOf stored_last es × AreLocksOf held_last es) (append_assoc front (entry ∷ []) records)
-    (taken_from (front ++ entry ∷ []) records stored_next stored_last held_next held_last carries.1 unended.1
-    (λ place. by_guard place ∙ ap (λ s. redo_by_guard place s entry) (is_store place) ∙ redone_next front entry place carries.0)
+-- the locks of the records, from those of the records before them
+taken_locks : (front records : List Entry) (stored stored_last : Place → Stored) (held held_last : TxnId → Place → Option Mode) →
+    EachAfter (λ seen entry. IsUnended seen entry.content) front records →
+    AreLocksOf held front → TakesInTurn records stored held stored_last held_last → AreLocksOf held_last (front ++ records)
+taken_locks front [] stored stored_last held held_last unended are_locks takes =
+    subst (λ es. AreLocksOf held_last es) (sym (append-nil front)) (λ txn place. takes.1 txn place ∙ are_locks txn place)
+taken_locks front (entry ∷ records) stored stored_last held held_last unended are_locks (stored_next, held_next, by_guard, by_lock, takes) =
+    subst (λ es. AreLocksOf held_last es) (append_assoc front (entry ∷ []) records)
+    (taken_locks (front ++ entry ∷ []) records stored_next stored_last held_next held_last unended.1
     (λ txn place.
     by_lock txn place
     ∙ ap (λ mode. cond (is_of txn entry.content) (cond (is_end entry.content) None (stronger mode (mode_at place entry.content))) mode) (are_locks txn place)
     ∙ sym (locks_of_log_push front entry txn place unended.0))
     takes)
 
+pub taken_locks_from_none : (records : List Entry) (stored_first stored : Place → Stored) (held : TxnId → Place → Option Mode) →
+    EachAfter (λ seen entry. IsUnended seen entry.content) [] records →
+    TakesInTurn records stored_first (λ _ _. None) stored held → AreLocksOf held records
+taken_locks_from_none records stored_first stored held unended takes =
+    taken_locks [] records stored_first stored (λ _ _. None) held unended (λ txn place. sym (locks_of_log-nil txn place)) takes
+
+-- the store of the records, from that of the records before them
+taken_store : (front records : List Entry) (stored stored_last : Place → Stored) (held held_last : TxnId → Place → Option Mode) →
+    EachAfter CarriesNumberBefore front records → IsStoreOf stored front → TakesInTurn records stored held stored_last held_last →
+    IsStoreOf stored_last (front ++ records)
+taken_store front [] stored stored_last held held_last carries is_store takes =
+    subst (λ es. IsStoreOf stored_last es) (sym (append-nil front)) (λ place. takes.0 place ∙ is_store place)
+taken_store front (entry ∷ records) stored stored_last held held_last carries is_store (stored_next, held_next, by_guard, by_lock, takes) =
+    subst (λ es. IsStoreOf stored_last es) (append_assoc front (entry ∷ []) records)
+    (taken_store (front ++ entry ∷ []) records stored_next stored_last held_next held_last carries.1
+    (λ place. by_guard place ∙ ap (λ s. redo_by_guard place s entry) (is_store place) ∙ redone_next front entry place carries.0)
+    takes)
+
 pub taken_from_first : (log : List Entry) (stored : Place → Stored) (held : TxnId → Place → Option Mode) →
     IsConsistentLog log → EachAfter (λ seen entry. IsUnended seen entry.content) [] log →
     TakesInTurn log (λ _. (0, None)) (λ _ _. None) stored held → IsStoreOf stored log × AreLocksOf held log
-taken_from_first log stored held consistent unended takes =
-    taken_from [] log (λ _. (0, None)) stored (λ _ _. None) held consistent unended (λ place. sym (store_of_log-nil place)) (λ txn place. sym (locks_of_log-nil txn place)) takes
+taken_from_first log stored held consistent unended takes = (
+  taken_store [] log (λ _. (0, None)) stored (λ _ _. None) held consistent (λ place. sym (store_of_log-nil place)) takes,
+  taken_locks_from_none log (λ _. (0, None)) stored held unended takes,
+)
 
 -- ---- on a copy
 
@@ -69,8 +87,10 @@ taken_on_copy log first records copy stored held_first held numbers consistent b
 
 pub taken_meets_writes : (log first records : List Entry) (entry : Entry) (rest : List Entry) (copy stored : Place → Stored) (held_first held : TxnId → Place → Option Mode) →
     IsNumberedFrom 1 log → IsConsistentLog log → log ≡ first ++ records ++ entry ∷ rest → IsCopyAfter log first copy →
-    TakesInTurn records copy held_first stored held → (place : Place) → writes place entry.content ≡ true →
-    ((stored place).0 ≡ number_before entry.content) ⊎ (entry.number ≤ (stored place).0)
-taken_meets_writes log first records entry rest copy stored held_first held numbers consistent is_log is_copy takes place write =
-    subst (λ (s : Stored). (s.0 ≡ number_before entry.content) ⊎ (entry.number ≤ s.0)) (sym (taken_is_redone records copy stored held_first held takes place))
-    (redone_meets_guard log first records entry rest copy numbers consistent is_log is_copy place write)
+    TakesInTurn records copy held_first stored held → MeetsWrite stored entry
+taken_meets_writes log first records entry rest copy stored held_first held numbers consistent is_log is_copy takes = record {
+  before = λ place write. (redone_meets_guard log first records entry rest copy numbers consistent is_log is_copy place write).0;
+  guard = λ place write.
+      subst (λ (s : Stored). (s.0 ≡ number_before entry.content) ⊎ (entry.number ≤ s.0)) (sym (taken_is_redone records copy stored held_first held takes place))
+      (redone_meets_guard log first records entry rest copy numbers consistent is_log is_copy place write).1;
+}

@@ -4,7 +4,7 @@ use Rattle.std.proofs.lemmas.Bool.{cond-true, cond-false, eq-eqb, ne_eqb, falseâ
 use Rattle.cl_types.specs.Places.{Place, Stored}
 use Rattle.cl_types.proofs.Places.{same_place-true}
 use Rattle.cl_log.specs.declared.records.LogRec.{LogRec}
-use Rattle.cl_log.specs.declared.records.LogRec.TheVariants.{Touch, Set, Add, Comp, Prepared, End, Decide}
+use Rattle.cl_log.specs.declared.records.LogRec.TheVariants.{Set, Add, Comp}
 use Rattle.cl_log.specs.Entry.{Entry}
 use Rattle.cl_log.specs.Kind.{writes, number_before}
 use Rattle.cl_redo.specs.declared.redone.Redone.{Redone}

@@ -24,7 +24,7 @@ redone_as stored (Add txn table key before amount) = redone_on (stored (table, k
 redone_as stored (Comp txn table key before undone form) = redone_on (stored (table, key)).0 before
 redone_as stored content = Marked
 
--- the grants at a place after a lock of a transaction at another or the same place
+-- the grants at a place after a lock was granted: changed at the lock's own place alone
 abbrev pub with_lock : TxnId → Place → Mode → Place → List Grant → List Grant
 with_lock txn own mode place grants = if same_place own place then after_grant grants (record { txn = txn; place = own; mode = mode }) else grants
 

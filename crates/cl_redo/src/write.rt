@@ -1,8 +1,7 @@
 //! The write of a record: made ready by guard, and then made.
-ghost use Rattle.std.specs.Prelude.{◌≡◌, ◌+◌, ◌≤◌, ◌<◌, ◌==◌, true, IfOk, if◌then◌else◌};
+ghost use Rattle.std.specs.Prelude.{◌≡◌, ◌+◌, ◌≤◌, ◌<◌, ◌==◌, IfOk, if◌then◌else◌};
 ghost use Rattle.std.specs.Option.{option_copied};
 ghost use Rattle.cl_types.specs.Places.{Place, same_place};
-ghost use Rattle.cl_log.specs.Kind.{writes, number_before};
 ghost use Rattle.cl_log.specs.Store.{value_after, less};
 ghost use Rattle.cl_store.specs.Store.{stored, spare};
 ghost use Rattle.cl_redo.specs.Write.{guarded, redone_of, after_write, CanWrite, IsAbove};
