@@ -7,14 +7,15 @@ use Rattle.std.specs.Vec.{with_items}
 use Rattle.cl_lists.specs.declared.slots.Side.{Side}
 use Rattle.cl_lists.specs.declared.slots.Side.TheVariants.{X, Y}
 use Rattle.cl_lists.specs.declared.slots.Entry.{Entry}
+use Rattle.cl_lists.specs.declared.slots.Content.{Content}
 use Rattle.cl_lists.specs.declared.slots.Content.TheVariants.{Item, Free}
 use Rattle.cl_lists.specs.declared.arena.Arena.{Arena}
 use Rattle.cl_lists.specs.Links.{no_link}
-use Rattle.cl_lists.specs.Entries.{links_on, contents, items, used, frees, free_count, lists_on_side}
+use Rattle.cl_lists.specs.Entries.{links_on, contents, items, item_of, used, frees, free_count, lists_on_side}
 use Rattle.cl_lists.specs.FreeList.{is_free_list}
 use Rattle.cl_lists.specs.Arena.{lists_on, item_at, IsInUse, spare_slots, Updates, IsUnchanged}
 use Rattle.cl_lists.proofs.ArenaFacts.{ends_on, lists_on-is, are_linked, used-in_use, inside-in_use, frees-in_use}
-use Rattle.cl_lists.proofs.ContentFacts.{items-filled, frees-filled, free_count-filled, items-freed, frees-freed, free_count-freed, items-added, frees-added, free_count-added}
+use Rattle.cl_lists.proofs.ContentFacts.{items-written, frees-written, free_count-filled, free_count-freed, items-added, frees-added, free_count-added}
 use Rattle.cl_lists.proofs.EntryWrites.{inside-frees}
 use Rattle.cl_lists.proofs.FreeListLemmas.{Head, head_of, is_free_list-cons, is_free_list-none, is_free_list-some, is_free_list-set_taken, is_free_list-set_first, is_free_list-append}
 use Rattle.cl_lists.proofs.SideFacts.{IsSide, unused-free, IsSide-more_slots}
@@ -71,7 +72,7 @@ module _ {T : Type 0} where
         let same : found.head.next ≡ next = same_Some found.head.next next (sym found.head.read ∙ ap (λ all. get_or (frees all) slot None) (sym is_seen) ∙ read) in
         let count : arena.free_count - 1 ≡ found.less = omega (arith, found.count) in
         let rest = is_free_list-set_first (frees arena.slots.items) slot None (suc found.less) all found.less found.head.next (omega arith) found.head.rest in
-        rw (frees-filled arena.slots.items (with_items arena.slots new).items slot item contents-filled, count) (subst (λ p. is_free_list (set (frees arena.slots.items) slot None) found.less p ≡ true) same rest)
+        rw (frees-written arena.slots.items (with_items arena.slots new).items slot (Item item) contents-filled, count) (subst (λ p. is_free_list (set (frees arena.slots.items) slot None) found.less p ≡ true) same rest)
 
     pub free_count-after_filled : free_count (with_items arena.slots new).items + 1 ≡ free_count arena.slots.items
     free_count-after_filled = free_count-filled arena.slots.items (with_items arena.slots new).items slot item contents-filled (inside-first arena slot first) (unused-first arena slot first)
@@ -89,7 +90,7 @@ module _ {T : Type 0} where
     is_free_list-freed =
         let inside : slot < length (frees arena.slots.items) = rw (length-map, length-map) (inside-in_use arena slot in_use) in
         let rest = is_free_list-set_taken (frees arena.slots.items) slot (Some arena.first_free) arena.free_count arena.first_free (frees-in_use arena slot in_use) arena.free_linked in
-        rw (frees-freed arena.slots.items (with_items arena.slots new).items slot arena.first_free contents-freed, add-one)
+        rw (frees-written arena.slots.items (with_items arena.slots new).items slot (Free arena.first_free) contents-freed, add-one)
         (is_free_list-cons (set (frees arena.slots.items) slot (Some arena.first_free)) arena.free_count slot
         (record { next = arena.first_free; read = get_or-set_same (frees arena.slots.items) slot (Some arena.first_free) None inside; rest = rest }))
 
@@ -101,22 +102,13 @@ module _ {T : Type 0} where
 
   -- ---- arenas before and after
 
-  pub Updates-filled : (old new : Arena T) (slot : ℕ) (item : T) → slot < length old.slots.items → contents new.slots.items ≡ set (contents old.slots.items) slot (Item item) → Updates old new slot (Some item)
+  pub Updates-written : (old new : Arena T) (slot : ℕ) (content : Content T) → slot < length old.slots.items → contents new.slots.items ≡ set (contents old.slots.items) slot content → Updates old new slot (item_of content)
   unfolding item_at
-  Updates-filled old new slot item inside written =
-      let all = items-filled old.slots.items new.slots.items slot item written in
+  Updates-written old new slot content inside written =
+      let all = items-written old.slots.items new.slots.items slot content written in
       record {
-        changed = ap (λ xs. get_or xs slot None) all ∙ get_or-set_same (items old.slots.items) slot (Some item) None (rw (length-map, length-map) inside);
-        others = λ other apart. ap (λ xs. get_or xs other None) all ∙ get_or-set_other (items old.slots.items) slot other (Some item) None apart;
-      }
-
-  pub Updates-freed : (old new : Arena T) (slot : ℕ) (next : Option ℕ) → slot < length old.slots.items → contents new.slots.items ≡ set (contents old.slots.items) slot (Free next) → Updates old new slot None
-  unfolding item_at
-  Updates-freed old new slot next inside written =
-      let all = items-freed old.slots.items new.slots.items slot next written in
-      record {
-        changed = ap (λ xs. get_or xs slot None) all ∙ get_or-set_same (items old.slots.items) slot None None (rw (length-map, length-map) inside);
-        others = λ other apart. ap (λ xs. get_or xs other None) all ∙ get_or-set_other (items old.slots.items) slot other None None apart;
+        changed = ap (λ xs. get_or xs slot None) all ∙ get_or-set_same (items old.slots.items) slot (item_of content) None (rw (length-map, length-map) inside);
+        others = λ other apart. ap (λ xs. get_or xs other None) all ∙ get_or-set_other (items old.slots.items) slot other (item_of content) None apart;
       }
 
   pub IsUnchanged-same : (old new : Arena T) → new.slots.items ≡ old.slots.items → new.x_ends.items ≡ old.x_ends.items → new.y_ends.items ≡ old.y_ends.items → IsUnchanged old new

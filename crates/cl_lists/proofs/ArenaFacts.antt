@@ -1,5 +1,5 @@
 -- What holds of every arena.
-use Rattle.std.proofs.Common.{◌≡◌, ℕ, zero, suc, ◌<◌, true, false, List, [], ◌∷◌, map, length, get_or, Option, Some, None, is_some, refl, sym, ◌∙◌, arith}
+use Rattle.std.proofs.Common.{◌≡◌, ℕ, zero, suc, ◌+◌, ◌<◌, true, false, List, [], ◌∷◌, map, length, get_or, Option, Some, None, is_some, refl, sym, subst, ◌∙◌, arith}
 use Rattle.std.proofs.Math.Logic.{∥∥₁_elim}
 use Rattle.cl_lists.specs.declared.slots.Ends.{Ends}
 use Rattle.cl_lists.specs.declared.slots.Side.{Side}
@@ -35,6 +35,12 @@ module _ {T : Type 0} where
 
   pub list_count-is : (arena : Arena T) (side : Side) → list_count arena side ≡ length (ends_on arena side)
   list_count-is arena side = (is_linked arena side).as_many
+
+  -- the numbers of the lists that come stay below 2^32
+  pub more_fit : (arena : Arena T) (side given : Side) → given ≡ side → (count : ℕ) → list_count arena given + count < 4294967296 → length (ends_on arena side) + count < 4294967296
+  more_fit arena side given is count room =
+      let fits : list_count arena side + count < 4294967296 = subst (λ s. list_count arena s + count < 4294967296) is room in
+      omega (arith, list_count-is arena side, fits)
 
   is_some-item_of : (all : List (Content T)) (slot : ℕ) → is_some (get_or (map item_of all) slot None) ≡ get_or (map is_item all) slot false
   is_some-item_of [] slot = refl

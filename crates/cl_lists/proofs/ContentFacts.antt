@@ -1,45 +1,34 @@
--- What the slots have after one is filled, freed or added.
+-- What the slots have after one is written or added.
 use Rattle.std.proofs.Common.{◌≡◌, ℕ, ◌+◌, ◌<◌, ◌≤◌, true, false, not, cond, List, [], ◌∷◌, ◌++◌, map, length, get_or, set, Option, Some, None, count_by, ap, ◌∙◌, arith, length-set}
 use Rattle.std.proofs.lemmas.List.{map-set, map_push, length-map}
 use Rattle.std.proofs.lemmas.List.Sums.{sum_by-set, sum_by_push, count_by-le-length}
 use Rattle.cl_lists.specs.declared.slots.Entry.{Entry}
+use Rattle.cl_lists.specs.declared.slots.Content.{Content}
 use Rattle.cl_lists.specs.declared.slots.Content.TheVariants.{Item, Free}
 use Rattle.cl_lists.specs.Entries.{contents, items, item_of, is_item, used, next_free, frees, free_count}
 
 module _ {T : Type 0} where
-  -- ---- one is filled
+  -- ---- one is written
 
-  module _ (old new : List (Entry T)) (slot : ℕ) (item : T) (written : contents new ≡ set (contents old) slot (Item item)) where
-    pub items-filled : items new ≡ set (items old) slot (Some item)
-    items-filled = ap (map item_of) written ∙ map-set item_of (contents old) slot (Item item)
+  module _ (old new : List (Entry T)) (slot : ℕ) (content : Content T) (written : contents new ≡ set (contents old) slot content) where
+    pub items-written : items new ≡ set (items old) slot (item_of content)
+    items-written = ap (map item_of) written ∙ map-set item_of (contents old) slot content
 
-    pub used-filled : used new ≡ set (used old) slot true
-    used-filled = ap (map is_item) written ∙ map-set is_item (contents old) slot (Item item)
+    pub used-written : used new ≡ set (used old) slot (is_item content)
+    used-written = ap (map is_item) written ∙ map-set is_item (contents old) slot content
 
-    pub frees-filled : frees new ≡ set (frees old) slot None
-    frees-filled = ap (map next_free) written ∙ map-set next_free (contents old) slot (Item item)
+    pub frees-written : frees new ≡ set (frees old) slot (next_free content)
+    frees-written = ap (map next_free) written ∙ map-set next_free (contents old) slot content
 
-    pub free_count-filled : slot < length old → get_or (used old) slot false ≡ false → free_count new + 1 ≡ free_count old
-    free_count-filled inside unused =
-        let one = sum_by-set (λ b. cond (not b) 1 0) (used old) slot true false (rw (length-map, length-map) inside) in
-        grind (arith, one, unused, used-filled)
+  pub free_count-filled : (old new : List (Entry T)) (slot : ℕ) (item : T) → contents new ≡ set (contents old) slot (Item item) → slot < length old → get_or (used old) slot false ≡ false → free_count new + 1 ≡ free_count old
+  free_count-filled old new slot item written inside unused =
+      let one = sum_by-set (λ b. cond (not b) 1 0) (used old) slot true false (rw (length-map, length-map) inside) in
+      grind (arith, one, unused, used-written old new slot (Item item) written)
 
-  -- ---- one is freed
-
-  module _ (old new : List (Entry T)) (slot : ℕ) (next : Option ℕ) (written : contents new ≡ set (contents old) slot (Free next)) where
-    pub items-freed : items new ≡ set (items old) slot None
-    items-freed = ap (map item_of) written ∙ map-set item_of (contents old) slot (Free next)
-
-    pub used-freed : used new ≡ set (used old) slot false
-    used-freed = ap (map is_item) written ∙ map-set is_item (contents old) slot (Free next)
-
-    pub frees-freed : frees new ≡ set (frees old) slot (Some next)
-    frees-freed = ap (map next_free) written ∙ map-set next_free (contents old) slot (Free next)
-
-    pub free_count-freed : slot < length old → get_or (used old) slot false ≡ true → free_count new ≡ free_count old + 1
-    free_count-freed inside in_use =
-        let one = sum_by-set (λ b. cond (not b) 1 0) (used old) slot false false (rw (length-map, length-map) inside) in
-        grind (arith, one, in_use, used-freed)
+  pub free_count-freed : (old new : List (Entry T)) (slot : ℕ) (next : Option ℕ) → contents new ≡ set (contents old) slot (Free next) → slot < length old → get_or (used old) slot false ≡ true → free_count new ≡ free_count old + 1
+  free_count-freed old new slot next written inside in_use =
+      let one = sum_by-set (λ b. cond (not b) 1 0) (used old) slot false false (rw (length-map, length-map) inside) in
+      grind (arith, one, in_use, used-written old new slot (Free next) written)
 
   -- ---- one is added
 

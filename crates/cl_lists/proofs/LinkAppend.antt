@@ -7,8 +7,8 @@ use Rattle.cl_lists.specs.declared.slots.Link.{Link}
 use Rattle.cl_lists.specs.declared.slots.Ends.{Ends}
 use Rattle.cl_lists.specs.SlotList.{has, is_distinct, last_of}
 use Rattle.cl_lists.specs.Lists.{list_at, appended}
-use Rattle.cl_lists.specs.Links.{IsInside, IsPlace, after, before, link_at, ends_at, next_at, prev_at, IsLinked, links_with_next, ends_with_next, ends_with_prev, links_appended, ends_appended}
-use Rattle.cl_lists.proofs.Linked.{cases_place, IsInside-linked, absent-linked, apart-linked}
+use Rattle.cl_lists.specs.Links.{IsInside, IsPlace, after, before, link_at, ends_at, next_at, prev_at, IsLinked, links_with_next, ends_with_next, ends_with_prev}
+use Rattle.cl_lists.proofs.Linked.{cases_place, IsInside-linked, absent-linked, apart-linked, read_at_each}
 use Rattle.cl_lists.proofs.ListsLaws.{list_at-appended_same, list_at-appended_other, length-appended}
 use Rattle.cl_lists.proofs.LinkWrites.{length-links_with_next, length-ends_with_next, length-ends_with_prev, next_at-with_next, next_at-with_next_other, next_at-with_next_elsewhere, prev_at-with_next, list-with_next, prev_at-with_prev, prev_at-with_prev_other, prev_at-with_prev_elsewhere, next_at-with_prev}
 use Rattle.cl_lists.proofs.Places.{after-push_last, after-push_self, after-push_other, before-push_end, before-push_self, before-push_other, IsPlace-last, IsPlace-push}
@@ -65,6 +65,16 @@ has-appended_old lists number slot exists n other there =
       | inl same ↦ grind (arith, nat_tests, same, list_at-appended_same lists number slot exists, has-append (list_at lists number) (slot ∷ []) other, there)
       | inr differ ↦ subst (λ xs. has xs other ≡ true) (sym (list_at-appended_other lists number slot n differ)) there
     ]
+
+-- the links and the ends after a slot, which was on no list, comes last on a list
+abbrev links_appended : List Link → List Ends → ℕ → ℕ → List Link
+links_appended links ends number slot =
+    let last = (ends_at ends number).last in
+    links_with_next (set links slot (record { prev = last; next = None; list = number })) last (Some slot)
+
+abbrev ends_appended : List Ends → ℕ → ℕ → List Ends
+ends_appended ends number slot =
+    ends_with_prev (ends_with_next ends number (ends_at ends number).last (Some slot)) number None (Some slot)
 
 module _ (links : List Link) (ends : List Ends) (used : List Bool) (lists : List (List ℕ)) (number slot : ℕ) (linked : IsLinked links ends used lists) (exists : number < length ends) (inside : slot < length links) (free : get_or used slot false ≡ false) where
   abbrev list : List ℕ
@@ -185,20 +195,10 @@ module _ (links : List Link) (ends : List Ends) (used : List Bool) (lists : List
   ]
 
   next' : (n : ℕ) (place : Option ℕ) → IsPlace (list_at lists' n) place → next_at links2 ends3 n place ≡ after (list_at lists' n) place
-  next' n place there = next_at-with_prev links2 ends2 number None (Some slot) n place ∙ elim (cases_eq n number) [
-    | inl same ↦ subst (λ m. next_at links2 ends2 m place ≡ after (list_at lists' m) place) (sym same)
-        (rw here (next_here place (subst (λ xs. IsPlace xs place) here (subst (λ m. IsPlace (list_at lists' m) place) same there))))
-    | inr differ ↦ let kept = list_at-appended_other lists number slot n differ in
-        rw kept (next_elsewhere n differ place (subst (λ xs. IsPlace xs place) kept there))
-  ]
+  next' n place there = next_at-with_prev links2 ends2 number None (Some slot) n place ∙ read_at_each lists lists' number _ here (list_at-appended_other lists number slot) (next_at links2 ends2) after next_here next_elsewhere n place there
 
   prev' : (n : ℕ) (place : Option ℕ) → IsPlace (list_at lists' n) place → prev_at links2 ends3 n place ≡ before (list_at lists' n) place
-  prev' n place there = elim (cases_eq n number) [
-    | inl same ↦ subst (λ m. prev_at links2 ends3 m place ≡ before (list_at lists' m) place) (sym same)
-        (rw here (prev_here place (subst (λ xs. IsPlace xs place) here (subst (λ m. IsPlace (list_at lists' m) place) same there))))
-    | inr differ ↦ let kept = list_at-appended_other lists number slot n differ in
-        rw kept (prev_elsewhere n differ place (subst (λ xs. IsPlace xs place) kept there))
-  ]
+  prev' n place there = read_at_each lists lists' number _ here (list_at-appended_other lists number slot) (prev_at links2 ends3) before prev_here prev_elsewhere n place there
 
   linked2 : IsLinked links2 ends3 taken lists'
   linked2 = record {

@@ -7,7 +7,7 @@ use Rattle.cl_lists.specs.declared.slots.Ends.{Ends}
 use Rattle.cl_lists.specs.SlotList.{has, is_distinct, after_in, before_in, without}
 use Rattle.cl_lists.specs.Lists.{list_at, removed}
 use Rattle.cl_lists.specs.Links.{IsInside, IsPlace, after, before, link_at, next_at, prev_at, IsLinked, links_with_next, ends_with_next, links_with_prev, ends_with_prev}
-use Rattle.cl_lists.proofs.Linked.{cases_place, inside-linked, exists-linked, IsInside-linked, apart-linked}
+use Rattle.cl_lists.proofs.Linked.{cases_place, inside-linked, exists-linked, IsInside-linked, apart-linked, read_at_each}
 use Rattle.cl_lists.proofs.ListsLaws.{list_at-removed, length-removed}
 use Rattle.cl_lists.proofs.LinkWrites.{length-links_with_next, length-ends_with_next, length-links_with_prev, length-ends_with_prev, next_at-with_next, next_at-with_next_other, next_at-with_next_elsewhere, prev_at-with_next, list-with_next, prev_at-with_prev, prev_at-with_prev_other, prev_at-with_prev_elsewhere, next_at-with_prev, list-with_prev}
 use Rattle.cl_lists.proofs.Places.{after-without_before, after-without_other, before-without_after, before-without_other, IsPlace-without, IsPlace-without_other, IsPlace-before_in, IsPlace-after_in}
@@ -135,18 +135,10 @@ module _ (links : List Link) (ends : List Ends) (used : List Bool) (lists : List
   ])
 
   next' : (n : ℕ) (place : Option ℕ) → IsPlace (list_at lists' n) place → next_at links2 ends2 n place ≡ after (list_at lists' n) place
-  next' n place stays = next_at-with_prev links1 ends1 number next prev n place ∙ elim (cases_eq n number) [
-    | inl same ↦ subst (λ m. next_at links1 ends1 m place ≡ after (list_at lists' m) place) (sym same)
-        (rw (list_at-removed lists slot number) (next_here place (subst (λ xs. IsPlace xs place) (list_at-removed lists slot number) (subst (λ m. IsPlace (list_at lists' m) place) same stays))))
-    | inr differ ↦ rw (kept n differ) (next_elsewhere n differ place (subst (λ xs. IsPlace xs place) (kept n differ) stays))
-  ]
+  next' n place stays = next_at-with_prev links1 ends1 number next prev n place ∙ read_at_each lists lists' number _ (list_at-removed lists slot number) kept (next_at links1 ends1) after next_here next_elsewhere n place stays
 
   prev' : (n : ℕ) (place : Option ℕ) → IsPlace (list_at lists' n) place → prev_at links2 ends2 n place ≡ before (list_at lists' n) place
-  prev' n place stays = elim (cases_eq n number) [
-    | inl same ↦ subst (λ m. prev_at links2 ends2 m place ≡ before (list_at lists' m) place) (sym same)
-        (rw (list_at-removed lists slot number) (prev_here place (subst (λ xs. IsPlace xs place) (list_at-removed lists slot number) (subst (λ m. IsPlace (list_at lists' m) place) same stays))))
-    | inr differ ↦ rw (kept n differ) (prev_elsewhere n differ place (subst (λ xs. IsPlace xs place) (kept n differ) stays))
-  ]
+  prev' n place stays = read_at_each lists lists' number _ (list_at-removed lists slot number) kept (prev_at links2 ends2) before prev_here prev_elsewhere n place stays
 
   linked2 : IsLinked links2 ends2 left lists'
   linked2 = record {

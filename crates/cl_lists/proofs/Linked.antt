@@ -40,3 +40,11 @@ module _ (links : List Link) (ends : List Ends) (used : List Bool) (lists : List
       let on_other = linked.numbered other slot (subst (IsPlace (list_at lists other)) is_place there) in
       let on_this = linked.numbered number slot (subst (IsPlace (list_at lists number)) is_at here) in
       differ (sym on_other ∙ on_this)
+
+-- what the links say at each place of the new lists, where one list alone is new
+pub read_at_each : (lists new : List (List ℕ)) (number : ℕ) (list : List ℕ) → list_at new number ≡ list → ((n : ℕ) → n ≢ number → list_at new n ≡ list_at lists n) → (read : ℕ → Option ℕ → Option ℕ) (said : List ℕ → Option ℕ → Option ℕ) → ((place : Option ℕ) → IsPlace list place → read number place ≡ said list place) → ((n : ℕ) → n ≢ number → (place : Option ℕ) → IsPlace (list_at lists n) place → read n place ≡ said (list_at lists n) place) → (n : ℕ) (place : Option ℕ) → IsPlace (list_at new n) place → read n place ≡ said (list_at new n) place
+read_at_each lists new number list is kept read said here elsewhere n place there = elim (cases_eq n number) [
+  | inl same ↦ subst (λ m. read m place ≡ said (list_at new m) place) (sym same)
+      (rw is (here place (subst (λ xs. IsPlace xs place) is (subst (λ m. IsPlace (list_at new m) place) same there))))
+  | inr differ ↦ rw (kept n differ) (elsewhere n differ place (subst (λ xs. IsPlace xs place) (kept n differ) there))
+]

@@ -1,5 +1,5 @@
 -- A side after the slots changed.
-use Rattle.std.proofs.Common.{Vec, Global, ◌≡◌, ◌⊎◌, ℕ, zero, suc, ◌+◌, ◌≤◌, Bool, true, false, List, [], ◌∷◌, ◌++◌, replicate, map, length, get_or, set, Option, None, IsSome, refl, sym, ap, subst, ◌∙◌, arith, inl, inr}
+use Rattle.std.proofs.Common.{Vec, Global, ◌≡◌, ◌⊎◌, ℕ, zero, suc, ◌+◌, ◌<◌, ◌≤◌, Bool, false, List, [], ◌∷◌, ◌++◌, replicate, map, length, get_or, set, Option, None, IsSome, refl, sym, ap, subst, ◌∙◌, arith, inl, inr}
 use Rattle.std.proofs.lemmas.List.{length-append, length-replicate, with_items_is}
 use Rattle.std.specs.Vec.{with_items}
 use Rattle.cl_lists.specs.declared.slots.Link.{Link}
@@ -12,7 +12,7 @@ use Rattle.cl_lists.specs.declared.slots.Content.TheVariants.{Item, Free}
 use Rattle.cl_lists.specs.Links.{no_link, no_ends, IsLinked, lists_of}
 use Rattle.cl_lists.specs.Sides.{opposite}
 use Rattle.cl_lists.specs.Entries.{links_on, contents, used, frees, is_item, next_free, DifferOn, SameLinks, lists_on_side, AreLinked}
-use Rattle.cl_lists.proofs.ContentFacts.{used-filled, used-freed, used-added}
+use Rattle.cl_lists.proofs.ContentFacts.{used-written, used-added}
 use Rattle.cl_lists.proofs.LinkGrow.{IsLinked-none, IsLinked-more_lists, IsLinked-more_slots}
 use Rattle.cl_lists.proofs.Walk.{lists_of-linked}
 
@@ -46,35 +46,26 @@ module _ {T : Type 0} where
   lists_on_side-differ side slots new ends differ = ap (λ links. lists_of links ends) differ.links
 
   -- Side X changed first, then side Y, then what the slot has: first is what the slots were then.
-  module _ (first second third last : List (Entry T)) (x_changed : DifferOn X first second) (y_changed : DifferOn Y second third) (filled : SameLinks third last) where
+  module _ (first second third last : List (Entry T)) (x_changed : DifferOn X first second) (y_changed : DifferOn Y second third) (same : SameLinks third last) where
     pub links_x : links_on X last ≡ links_on X second
-    links_x = filled X ∙ y_changed.links
+    links_x = same X ∙ y_changed.links
 
     pub links_y : links_on Y last ≡ links_on Y third
-    links_y = filled Y
+    links_y = same Y
 
     pub contents_third : contents third ≡ contents first
     contents_third = y_changed.contents ∙ x_changed.contents
 
-    pub IsSide-inserted_x : (slot : ℕ) (item : T) (ends : List Ends) (lists : List (List ℕ)) → contents last ≡ set (contents third) slot (Item item) → IsLinked (links_on X second) ends (set (used first) slot true) lists → IsSide X last ends lists
-    IsSide-inserted_x slot item ends lists written linked =
-        IsSide-from X last ends (links_on X second) (set (used first) slot true) lists linked links_x
-        (used-filled first last slot item (written ∙ ap (λ all. set all slot (Item item)) contents_third))
+    module _ (slot : ℕ) (content : Content T) (ends : List Ends) (lists : List (List ℕ)) (written : contents last ≡ set (contents third) slot content) where
+      pub IsSide-written_x : IsLinked (links_on X second) ends (set (used first) slot (is_item content)) lists → IsSide X last ends lists
+      IsSide-written_x linked =
+          IsSide-from X last ends (links_on X second) (set (used first) slot (is_item content)) lists linked links_x
+          (used-written first last slot content (written ∙ ap (λ all. set all slot content) contents_third))
 
-    pub IsSide-inserted_y : (slot : ℕ) (item : T) (ends : List Ends) (lists : List (List ℕ)) → contents last ≡ set (contents third) slot (Item item) → IsLinked (links_on Y third) ends (set (used second) slot true) lists → IsSide Y last ends lists
-    IsSide-inserted_y slot item ends lists written linked =
-        IsSide-from Y last ends (links_on Y third) (set (used second) slot true) lists linked links_y
-        (used-filled second last slot item (written ∙ ap (λ all. set all slot (Item item)) y_changed.contents))
-
-    pub IsSide-extracted_x : (slot : ℕ) (next : Option ℕ) (ends : List Ends) (lists : List (List ℕ)) → contents last ≡ set (contents third) slot (Free next) → IsLinked (links_on X second) ends (set (used first) slot false) lists → IsSide X last ends lists
-    IsSide-extracted_x slot next ends lists written linked =
-        IsSide-from X last ends (links_on X second) (set (used first) slot false) lists linked links_x
-        (used-freed first last slot next (written ∙ ap (λ all. set all slot (Free next)) contents_third))
-
-    pub IsSide-extracted_y : (slot : ℕ) (next : Option ℕ) (ends : List Ends) (lists : List (List ℕ)) → contents last ≡ set (contents third) slot (Free next) → IsLinked (links_on Y third) ends (set (used second) slot false) lists → IsSide Y last ends lists
-    IsSide-extracted_y slot next ends lists written linked =
-        IsSide-from Y last ends (links_on Y third) (set (used second) slot false) lists linked links_y
-        (used-freed second last slot next (written ∙ ap (λ all. set all slot (Free next)) y_changed.contents))
+      pub IsSide-written_y : IsLinked (links_on Y third) ends (set (used second) slot (is_item content)) lists → IsSide Y last ends lists
+      IsSide-written_y linked =
+          IsSide-from Y last ends (links_on Y third) (set (used second) slot (is_item content)) lists linked links_y
+          (used-written second last slot content (written ∙ ap (λ all. set all slot content) y_changed.contents))
 
   -- ---- no slots and no lists
 
@@ -120,6 +111,9 @@ module _ {T : Type 0} where
     | inl more ↦ (IsSide-more_lists side slots ends new n linked more).linked
     | inr same ↦ subst (AreLinked side slots) (sym same) linked
   ]
+
+pub few-with_items : (ends : Vec Ends Global) (new : List Ends) → length new ≡ ends.len → length ends.items < 4294967296 → length (with_items ends new).items < 4294967296
+few-with_items ends new fits few = subst (λ es. length es < 4294967296) (sym (with_items_is ends new fits)) (omega (arith, fits, ends.ok.0, few))
 
 pub length-grown : (ends new : List Ends) (n : ℕ) → (new ≡ ends ++ replicate n no_ends) ⊎ (new ≡ ends) → length new ≤ length ends + n
 length-grown ends new n grown = elim grown [

@@ -1,4 +1,4 @@
--- What the slots of an arena have. No public clause cites this module.
+-- What the slots of an arena have. Contracts see this only through `Arena.antt`.
 use Rattle.std.specs.Prelude.{◌≡◌, ℕ, Bool, true, false, not, count_by, List, map, Option, Some, None}
 use Rattle.cl_lists.specs.declared.slots.Link.{Link}
 use Rattle.cl_lists.specs.declared.slots.Ends.{Ends}

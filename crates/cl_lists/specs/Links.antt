@@ -1,4 +1,4 @@
--- How one side links the slots of its lists. No public clause cites this module.
+-- How one side links the slots of its lists. Contracts see this only through `Arena.antt`.
 use Rattle.std.specs.Prelude.{◌≡◌, ◌<◌, ℕ, zero, suc, Bool, true, false, List, [], ◌∷◌, map, length, Option, Some, None, slice_index_or, slice_set}
 use Rattle.cl_lists.specs.SlotList.{has, is_distinct, first_of, last_of, after_in, before_in}
 use Rattle.cl_lists.specs.Lists.{list_at}
@@ -74,16 +74,6 @@ links_with_prev links (Some slot) prev = slice_set links slot (record (link_at l
 abbrev pub ends_with_prev : List Ends → ℕ → Option ℕ → Option ℕ → List Ends
 ends_with_prev ends number None prev = slice_set ends number (record (ends_at ends number) { last = prev })
 ends_with_prev ends number (Some slot) prev = ends
-
--- the links and the ends after a slot, which was on no list, comes last on a list
-abbrev pub links_appended : List Link → List Ends → ℕ → ℕ → List Link
-links_appended links ends number slot =
-    let last = (ends_at ends number).last in
-    links_with_next (slice_set links slot (record { prev = last; next = None; list = number })) last (Some slot)
-
-abbrev pub ends_appended : List Ends → ℕ → ℕ → List Ends
-ends_appended ends number slot =
-    ends_with_prev (ends_with_next ends number (ends_at ends number).last (Some slot)) number None (Some slot)
 
 -- the slots that the links lead to from a place on, so many at most
 unfoldable pub walk : List Link → ℕ → Option ℕ → List ℕ

@@ -29,17 +29,18 @@ last_or given (slot ∷ list) = last_or (Some slot) list
 abbrev pub last_of : List ℕ → Option ℕ
 last_of list = last_or None list
 
--- the slot that follows this one on the list
+-- the slot that follows this one on the list, or none after the last and where this one is not on the list
 unfoldable pub after_in : List ℕ → ℕ → Option ℕ
 after_in [] slot = None
 after_in (other ∷ list) slot = if other == slot then first_of list else after_in list slot
 
--- the slot that this one follows on the list, or what is given before the first one
+-- the slot that this one follows on the list, or what is given before the first, or none where this one is not on
+-- the list
 unfoldable pub before_or : Option ℕ → List ℕ → ℕ → Option ℕ
 before_or given [] slot = None
 before_or given (other ∷ list) slot = if other == slot then given else before_or (Some other) list slot
 
--- the slot that this one follows on the list
+-- the slot that this one follows on the list, or none before the first and where this one is not on the list
 abbrev pub before_in : List ℕ → ℕ → Option ℕ
 before_in list slot = before_or None list slot
 

@@ -29,7 +29,7 @@ pub struct Arena<T> {
 }
 
 impl<T> Arena<T> {
-    ghost use Rattle.std.specs.Prelude.{◌≡◌, ◌+◌, ◌≤◌, ◌<◌, ◌^◌, ◌++◌, [], ℕ, Some, None, IsOk, OnOk, OnErr, IfSome, replicate};
+    ghost use Rattle.std.specs.Prelude.{◌≡◌, ◌+◌, ◌≤◌, ◌<◌, ◌^◌, ◌++◌, max, [], ℕ, Some, None, IsOk, OnOk, OnErr, IfSome, replicate};
     ghost use Rattle.cl_lists.specs.SlotList.{IsOn, first_of, last_of, after_in, before_in};
     ghost use Rattle.cl_lists.specs.Sides.{opposite};
     ghost use Rattle.cl_lists.specs.Arena.{lists_on, list_of, list_count, item_at, IsInUse, spare_slots, IsPlaced, Pushes, Unlinks, IsUnchanged};
@@ -73,6 +73,7 @@ impl<T> Arena<T> {
         requires { list_count self.old side + count < 2 ^ 32 }
         ensures ok { OnOk result (lists_on self.new side ≡ lists_on self.old side ++ replicate count []) }
         ensures err { OnErr result (lists_on self.new side ≡ lists_on self.old side) }
+        ensures none { count ≡ 0 → IsOk result }
         ensures other { lists_on self.new (opposite side) ≡ lists_on self.old (opposite side) }
         ensures items { (slot : ℕ) → item_at self.new slot ≡ item_at self.old slot }
         ensures spare { spare_slots self.new ≡ spare_slots self.old }
@@ -83,7 +84,7 @@ impl<T> Arena<T> {
         }
     }
 
-    /// Makes room for `count` more items. The items and the lists stay, whatever the answer.
+    /// Makes room for `count` more items, and no more. The items and the lists stay, whatever the answer.
     ///
     /// Each slot that it adds takes a step; where there is room already it does nothing.
     pub fn reserve(&mut self, count: usize) -> Result<(), NoMemory>
@@ -91,6 +92,7 @@ impl<T> Arena<T> {
         ensures ok { OnOk result (count ≤ spare_slots self.new) }
         ensures roomy { count ≤ spare_slots self.old → IsOk result }
         ensures kept { spare_slots self.old ≤ spare_slots self.new }
+        ensures most { spare_slots self.new ≤ max count (spare_slots self.old) }
     {
         self.slots.reserve(count.saturating_sub(self.free_count))?;
         while self.free_count < count {

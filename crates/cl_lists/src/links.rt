@@ -1,5 +1,5 @@
 //! The lists of one side: the links between slots, and the ends of each list.
-ghost use Rattle.std.specs.Prelude.{◌≡◌, ◌+◌, ◌^◌, ◌<◌, ◌++◌, true, false, length, replicate, slice_index_or, slice_set, vec_len, OnOk, OnErr};
+ghost use Rattle.std.specs.Prelude.{◌≡◌, ◌+◌, ◌^◌, ◌<◌, ◌++◌, true, false, length, replicate, slice_index_or, slice_set, vec_len, IsOk, OnOk, OnErr};
 ghost use Rattle.cl_lists.specs.Entries.{links_on, lists_on_side, used, AreLinked, DifferOn};
 ghost use Rattle.cl_lists.specs.Lists.{appended, removed};
 ghost use Rattle.cl_lists.specs.Links.{IsInside, IsLinked, no_ends, link_at, ends_at, links_with_next, links_with_prev, ends_with_next, ends_with_prev};
@@ -119,7 +119,11 @@ pub(crate) fn add_lists(ends: &mut Vec<Ends>, count: u32) -> Result<(), NoMemory
     requires { vec_len ends.old + count < 2 ^ 32 }
     ensures ok { OnOk result (ends.new.items ≡ ends.old.items ++ replicate count no_ends) }
     ensures err { OnErr result (ends.new.items ≡ ends.old.items) }
+    ensures none { count ≡ 0 → IsOk result }
 {
+    if count == 0 {
+        return Ok(());
+    }
     ends.resize(ends.len() + count as usize, Ends::NONE)?;
     Ok(())
 }

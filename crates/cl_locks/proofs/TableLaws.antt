@@ -13,9 +13,14 @@ use Rattle.cl_locks.specs.Listed.{place_list, grants_on}
 use Rattle.cl_locks.specs.Table.{grants_at, held, IsTableOf}
 use Rattle.cl_locks.proofs.GrantLists.{at_place-none, at_place-again, first_conflict-at_place, without_txn-at_place}
 use Rattle.cl_locks.proofs.Compatible.{first_conflict-none, first_conflict-holds, is_conflict-held}
+use Rattle.cl_locks.proofs.OneList.{all_grants, at_place-all_grants}
 use Rattle.cl_locks.proofs.Granting.{at_place-after_grant, mode_held-at_place, mode_held-none}
 
 -- ---- the whole list
+
+pub IsTableOf-all_grants : (locks : Locks) → (grants : List Grant) × IsTableOf locks grants
+unfolding grants_at
+IsTableOf-all_grants locks = (all_grants locks.granted, at_place-all_grants locks.granted locks.listed)
 
 pub IsTableOf-empty : (locks : Locks) → ((place : Place) → grants_at locks place ≡ []) → IsTableOf locks []
 IsTableOf-empty locks empty = λ place. empty place ∙ sym (at_place-none place)

@@ -11,6 +11,10 @@ use Rattle.cl_locks.specs.Table.{grants_at, held, IsTableOf}
 
 -- ---- the grants of all places are one list in order of grant
 
+-- every table is a list of grants
+abbrev pub EveryTableIsList : Type 0
+EveryTableIsList = (locks : Locks) → (grants : List Grant) × IsTableOf locks grants
+
 -- a table with no lock is the empty list
 abbrev pub EmptyIsTable : Type 0
 EmptyIsTable = (locks : Locks) → ((place : Place) → grants_at locks place ≡ []) → IsTableOf locks []

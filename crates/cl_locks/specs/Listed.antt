@@ -1,4 +1,4 @@
--- How the table keeps its grants on lists. No public clause cites this module.
+-- How the table keeps its grants on lists. Contracts see this only through `Table.antt`.
 use Rattle.std.specs.Prelude.{◌≡◌, ℕ, ◌<◌, ◌≤◌, ◌%◌, List, Some}
 use Rattle.cl_lists.specs.declared.arena.Arena.{Arena}
 use Rattle.cl_lists.specs.declared.slots.Side.{Side}

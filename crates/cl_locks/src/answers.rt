@@ -17,7 +17,7 @@ pub enum Granted {
 pub enum LockRefused {
     /// The transaction is the first holder, in order of grant, of a lock in conflict.
     Held(TxnId),
-    /// A growth was refused by the allocator.
+    /// Memory was wanting.
     NoMemory,
 }
 

@@ -1,9 +1,10 @@
 //! What holds of every table. Each function does nothing: its contract is a law.
-ghost use Rattle.cl_locks.specs.Laws.{EmptyIsTable, OneFirstConflict, OneModeHeld, GrantMakesTable, ReleaseMakesTable, GrantsArePlaced, GrantsAreCompatible, ModesAreCompatible, FirstConflictHolds, NoConflictIsFree};
+ghost use Rattle.cl_locks.specs.Laws.{EveryTableIsList, EmptyIsTable, OneFirstConflict, OneModeHeld, GrantMakesTable, ReleaseMakesTable, GrantsArePlaced, GrantsAreCompatible, ModesAreCompatible, FirstConflictHolds, NoConflictIsFree};
 
-/// The grants of all places are one list in order of grant: what a call answers by the grants of a
-/// place it answers by the whole list, and what it does at each place it does to the whole list.
+/// Every table is one list of grants: what a call answers by the grants of a place it answers by
+/// the whole list, and what it does at each place it does to the whole list.
 pub fn one_table()
+    ensures list { EveryTableIsList }
     ensures empty { EmptyIsTable }
     ensures conflict { OneFirstConflict }
     ensures mode { OneModeHeld }

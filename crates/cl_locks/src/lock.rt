@@ -1,5 +1,5 @@
 //! One lock, and the lists on which it stands.
-ghost use Rattle.std.specs.Prelude.{◌≡◌, ◌<◌, Some, not, ◌&&◌};
+ghost use Rattle.std.specs.Prelude.{◌≡◌, ◌<◌, Some, ◌&&◌};
 ghost use Rattle.cl_types.specs.Modes.{is_conflict};
 ghost use Rattle.cl_types.specs.Places.{same_place};
 ghost use Rattle.cl_types.specs.Transactions.{same_txn};

@@ -36,8 +36,8 @@ fn place(key: &[u8]) -> Result<(TableName, Key), NoMemory> {
 fn a_shared_lock_becomes_exclusive_once_it_is_alone(rt: HostRuntime) -> Result<(), Fail> {
     let (t, a) = place(b"a")?;
     let mut locks = Locks::new(rt.alloc());
-    assert_eq!(rt; locks.ask(SECOND, &t, &a, Mode::Shared), Ok(Granted::New));
-    assert_eq!(rt; locks.ask(THIRD, &t, &a, Mode::Shared), Ok(Granted::New));
+    assert_eq!(rt; locks.ask(SECOND, &t, &a, Mode::Shared)?, Granted::New);
+    assert_eq!(rt; locks.ask(THIRD, &t, &a, Mode::Shared)?, Granted::New);
     assert_eq!(rt;
         locks.ask(SECOND, &t, &a, Mode::Exclusive),
         Err(LockRefused::Held(THIRD))
@@ -46,8 +46,8 @@ fn a_shared_lock_becomes_exclusive_once_it_is_alone(rt: HostRuntime) -> Result<(
     locks.release(THIRD);
     assert_eq!(rt; locks.holds(THIRD, &t, &a), None);
     assert_eq!(rt;
-        locks.ask(SECOND, &t, &a, Mode::Exclusive),
-        Ok(Granted::Stronger)
+        locks.ask(SECOND, &t, &a, Mode::Exclusive)?,
+        Granted::Stronger
     );
     assert_eq!(rt; locks.holds(SECOND, &t, &a), Some(Mode::Exclusive));
     Ok(())
@@ -58,19 +58,13 @@ fn a_transaction_does_not_conflict_with_itself(rt: HostRuntime) -> Result<(), Fa
     let (t, a) = place(b"a")?;
     let (_, b) = place(b"b")?;
     let mut locks = Locks::new(rt.alloc());
-    assert_eq!(rt; locks.ask(FIRST, &t, &a, Mode::Shared), Ok(Granted::New));
+    assert_eq!(rt; locks.ask(FIRST, &t, &a, Mode::Shared)?, Granted::New);
+    assert_eq!(rt; locks.ask(FIRST, &t, &a, Mode::Shared)?, Granted::Already);
+    assert_eq!(rt; locks.ask(FIRST, &t, &b, Mode::Exclusive)?, Granted::New);
+    assert_eq!(rt; locks.ask(FIRST, &t, &b, Mode::Shared)?, Granted::Already);
     assert_eq!(rt;
-        locks.ask(FIRST, &t, &a, Mode::Shared),
-        Ok(Granted::Already)
-    );
-    assert_eq!(rt; locks.ask(FIRST, &t, &b, Mode::Exclusive), Ok(Granted::New));
-    assert_eq!(rt;
-        locks.ask(FIRST, &t, &b, Mode::Shared),
-        Ok(Granted::Already)
-    );
-    assert_eq!(rt;
-        locks.ask(FIRST, &t, &b, Mode::Exclusive),
-        Ok(Granted::Already)
+        locks.ask(FIRST, &t, &b, Mode::Exclusive)?,
+        Granted::Already
     );
     assert_eq!(rt; locks.holds(FIRST, &t, &b), Some(Mode::Exclusive));
     Ok(())
@@ -81,7 +75,7 @@ fn the_first_holder_in_conflict_is_named(rt: HostRuntime) -> Result<(), Fail> {
     let (t, a) = place(b"a")?;
     let mut locks = Locks::new(rt.alloc());
     for holder in [THIRD, FIRST, SECOND] {
-        assert_eq!(rt; locks.ask(holder, &t, &a, Mode::Shared), Ok(Granted::New));
+        assert_eq!(rt; locks.ask(holder, &t, &a, Mode::Shared)?, Granted::New);
     }
     assert_eq!(rt;
         locks.ask(SECOND_NEXT, &t, &a, Mode::Exclusive),
@@ -105,11 +99,8 @@ fn keys_of_one_list_do_not_meet(rt: HostRuntime) -> Result<(), Fail> {
     let (t, b) = place(b"b")?;
     let (_, ic) = place(b"ic")?;
     let mut locks = Locks::new(rt.alloc());
-    assert_eq!(rt; locks.ask(FIRST, &t, &b, Mode::Exclusive), Ok(Granted::New));
-    assert_eq!(rt;
-        locks.ask(SECOND, &t, &ic, Mode::Exclusive),
-        Ok(Granted::New)
-    );
+    assert_eq!(rt; locks.ask(FIRST, &t, &b, Mode::Exclusive)?, Granted::New);
+    assert_eq!(rt; locks.ask(SECOND, &t, &ic, Mode::Exclusive)?, Granted::New);
     assert_eq!(rt; locks.holds(FIRST, &t, &ic), None);
     assert_eq!(rt;
         locks.ask(FIRST, &t, &ic, Mode::Shared),
@@ -117,7 +108,7 @@ fn keys_of_one_list_do_not_meet(rt: HostRuntime) -> Result<(), Fail> {
     );
     locks.release(FIRST);
     assert_eq!(rt; locks.holds(SECOND, &t, &ic), Some(Mode::Exclusive));
-    assert_eq!(rt; locks.ask(SECOND, &t, &b, Mode::Shared), Ok(Granted::New));
+    assert_eq!(rt; locks.ask(SECOND, &t, &b, Mode::Shared)?, Granted::New);
     Ok(())
 }
 
@@ -127,20 +118,17 @@ fn a_release_leaves_the_session_s_other_transactions(rt: HostRuntime) -> Result<
     let (_, b) = place(b"b")?;
     let (_, c) = place(b"c")?;
     let mut locks = Locks::new(rt.alloc());
+    assert_eq!(rt; locks.ask(SECOND, &t, &a, Mode::Exclusive)?, Granted::New);
     assert_eq!(rt;
-        locks.ask(SECOND, &t, &a, Mode::Exclusive),
-        Ok(Granted::New)
+        locks.ask(SECOND_NEXT, &t, &b, Mode::Exclusive)?,
+        Granted::New
     );
-    assert_eq!(rt;
-        locks.ask(SECOND_NEXT, &t, &b, Mode::Exclusive),
-        Ok(Granted::New)
-    );
-    assert_eq!(rt; locks.ask(SECOND, &t, &c, Mode::Shared), Ok(Granted::New));
+    assert_eq!(rt; locks.ask(SECOND, &t, &c, Mode::Shared)?, Granted::New);
     locks.release(SECOND);
     assert_eq!(rt; locks.holds(SECOND, &t, &a), None);
     assert_eq!(rt; locks.holds(SECOND, &t, &c), None);
     assert_eq!(rt; locks.holds(SECOND_NEXT, &t, &b), Some(Mode::Exclusive));
-    assert_eq!(rt; locks.ask(FIRST, &t, &a, Mode::Exclusive), Ok(Granted::New));
+    assert_eq!(rt; locks.ask(FIRST, &t, &a, Mode::Exclusive)?, Granted::New);
     Ok(())
 }
 

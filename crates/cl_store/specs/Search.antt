@@ -1,4 +1,4 @@
--- Where a place is among records in scan order.
+-- Where a place is among records in scan order. No public clause cites this module.
 use Rattle.std.specs.Prelude.{◌≡◌, ℕ, ◌<◌, ◌≤◌, List, length, take, drop}
 use Rattle.std.specs.List.{All, HoldsAt}
 use Rattle.std.specs.declared.cmp.Ordering.TheVariants.{Less}

@@ -1,5 +1,5 @@
 //! Where a place is among records in scan order, and what else is read off them.
-ghost use Rattle.std.specs.Prelude.{◌≡◌, ◌≤◌, length, drop, IfOk, IfErr};
+ghost use Rattle.std.specs.Prelude.{◌≡◌, ◌≤◌, length, [], drop, IsOk, IfOk, IfErr};
 ghost use Rattle.cl_types.specs.GrowingList.{items};
 ghost use Rattle.cl_store.specs.Entries.{items_of};
 ghost use Rattle.cl_store.specs.Items.{IsInScanOrder, records_after, place_read, live};
@@ -48,7 +48,8 @@ pub(crate) fn live_count(entries: &[Entry]) -> u64
 
 // The records alone, copied.
 pub(crate) fn copied_items(alloc: Global, entries: &[Entry]) -> Result<ItemList, NoMemory>
-    ensures { IfOk result (λ list. items list ≡ items_of entries.now) }
+    ensures ok { IfOk result (λ list. items list ≡ items_of entries.now) }
+    ensures none { items_of entries.now ≡ [] → IsOk result }
 {
     let mut list = ItemList::new(alloc);
     list.reserve(entries.len())?;

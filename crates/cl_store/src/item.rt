@@ -4,7 +4,7 @@ ghost use Rattle.std.specs.Prelude.{◌≡◌, IfOk};
 use cl_types::{GrowingList, Key, NoMemory, TableName, Value, copy_value};
 use std::alloc::Global;
 
-/// A record: its place, its state number (at least 1) and its value, absent where the record is dead.
+/// A record: its place, its state number (in a store at least 1) and its value, absent where the record is dead.
 #[derive(Debug, PartialEq, Eq, Drop)]
 pub struct Item {
     pub table: TableName,

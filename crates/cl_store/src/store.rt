@@ -26,7 +26,6 @@ impl Store {
     ghost use Rattle.cl_types.specs.GrowingList.{items};
     ghost use Rattle.cl_types.specs.Places.{Place, same_place};
     ghost use Rattle.cl_store.specs.Items.{scanned, place_read, live};
-    ghost use Rattle.cl_store.specs.Search.{IsFoundAt, BelongsAt};
     ghost use Rattle.cl_store.specs.Store.{records, spare, stored};
 
     /// A store in which nothing was written. It takes no memory.
@@ -106,9 +105,11 @@ impl Store {
 
     /// The first `max` records after a place, or of all where there is none, in scan order: dead ones too.
     ///
-    /// It finds the place as `get` does, and copies no more records than it gives.
+    /// It finds the place as `get` does, and copies no more records than it gives. Where it gives none it does not
+    /// fail.
     pub fn scan(&self, after: Option<(&TableName, &Key)>, max: usize) -> Result<ItemList, NoMemory>
-        ensures { IfOk result (λ list. items list ≡ scanned (records self.now) (place_read after.entry) max) }
+        ensures ok { IfOk result (λ list. items list ≡ scanned (records self.now) (place_read after.entry) max) }
+        ensures none { scanned (records self.now) (place_read after.entry) max ≡ [] → IsOk result }
     {
         let rest = &self.entries[entries::index_after(&self.entries, after)..];
         entries::copied_items(self.alloc, &rest[..max.min(rest.len())])

@@ -7,31 +7,18 @@ use Rattle.cl_store.proofs.Found.{stored_at-absent}
 use Rattle.cl_store.proofs.Writes.{stored_at-entry}
 use Rattle.cl_store.proofs.store.Store.get.Goals as goal
 
-pub returns-in-Ok-clause-number : goal.returns-in-Ok-clause-number
+pub returns-in-Ok : goal.returns-in-Ok
 unfolding records
-returns-in-Ok-clause-number c =
+returns-in-Ok c =
     let place : Place = (c.args.table.now, c.args.key.now) in
     let found = subst (λ entries. IsFoundAt (items_of entries) place c.in-Ok.at) c.deref.ensures.value c.in-Ok.ensures.found in
-    ap (λ (s : Stored). s.0) (sym (stored_at-entry c.args.self.now.entries.items place c.in-Ok.at c.args.self.now.in_order found c.index.result.now c.index.ensures))
+    let stands = sym (stored_at-entry c.args.self.now.entries.items place c.in-Ok.at c.args.self.now.in_order found c.index.result.now c.index.ensures) in
+    record { number = ap (λ (s : Stored). s.0) stands; value = c.as_ref.ensures.value ∙ ap (λ (s : Stored). s.1) stands }
 
-pub returns-in-Ok-clause-value : goal.returns-in-Ok-clause-value
+pub returns-in-Err : goal.returns-in-Err
 unfolding records
-returns-in-Ok-clause-value c =
-    let place : Place = (c.args.table.now, c.args.key.now) in
-    let found = subst (λ entries. IsFoundAt (items_of entries) place c.in-Ok.at) c.deref.ensures.value c.in-Ok.ensures.found in
-    c.as_ref.ensures.value
-    ∙ ap (λ (s : Stored). s.1) (sym (stored_at-entry c.args.self.now.entries.items place c.in-Ok.at c.args.self.now.in_order found c.index.result.now c.index.ensures))
-
-pub returns-in-Err-clause-number : goal.returns-in-Err-clause-number
-unfolding records
-returns-in-Err-clause-number c =
+returns-in-Err c =
     let place : Place = (c.args.table.now, c.args.key.now) in
     let belongs = subst (λ entries. BelongsAt (items_of entries) place c.in-Err.field-0) c.deref.ensures.value c.in-Err.ensures.absent in
-    ap (λ (s : Stored). s.0) (sym (stored_at-absent (items_of c.args.self.now.entries.items) place c.in-Err.field-0 belongs))
-
-pub returns-in-Err-clause-value : goal.returns-in-Err-clause-value
-unfolding records
-returns-in-Err-clause-value c =
-    let place : Place = (c.args.table.now, c.args.key.now) in
-    let belongs = subst (λ entries. BelongsAt (items_of entries) place c.in-Err.field-0) c.deref.ensures.value c.in-Err.ensures.absent in
-    ap (λ (s : Stored). s.1) (sym (stored_at-absent (items_of c.args.self.now.entries.items) place c.in-Err.field-0 belongs))
+    let stands = sym (stored_at-absent (items_of c.args.self.now.entries.items) place c.in-Err.field-0 belongs) in
+    record { number = ap (λ (s : Stored). s.0) stands; value = ap (λ (s : Stored). s.1) stands }
