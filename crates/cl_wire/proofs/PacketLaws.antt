@@ -145,7 +145,7 @@ again_header m fits = again_as _ _ _ _
 
 -- ---- packets
 
-takes_message : Takes read_message (IsSpelled spelling IsInRange)
+pub takes_message : Takes read_message (IsSpelled spelling IsInRange)
 unfolding read_message spelling header_bytes
 takes_message = takes_bind _ _ _ _ takes_header (λ header text_1 h1.
     takes_last _ _ _ _ (takes_content header.kind) (λ content text_2 h2. record {
@@ -153,7 +153,7 @@ takes_message = takes_bind _ _ _ _ takes_header (λ header text_1 h1.
       fits = record { from = h1.from; to = h1.to; set = h1.set; seq = rw h2.kind_is h1.seq; ack = h1.ack; content = h2.fits };
     }))
 
-again_message : (m : Message) → IsInRange m → Again read_message (spelling m) m
+pub again_message : (m : Message) → IsInRange m → Again read_message (spelling m) m
 unfolding read_message spelling header_of
 again_message m fits =
     again_bind _ _ (header_bytes m) (content_bytes m.content) _ _ (again_header m fits)

@@ -6,9 +6,9 @@ use Rattle.std.proofs.lemmas.List.Elements.{recursion_from_All}
 use Rattle.std.proofs.lemmas.List.Concat.{flat_map-cons}
 use Rattle.cl_types.specs.declared.operations.TxnId.{TxnId}
 use Rattle.cl_types.specs.declared.operations.Op.{Op}
-use Rattle.cl_types.specs.declared.operations.Op.TheVariants.{Get, Put, Del, Add}
+use Rattle.cl_types.specs.declared.operations.Op.TheVariants.{Put, Add}
 use Rattle.cl_types.specs.declared.operations.Command.{Command as ClientCommand}
-use Rattle.cl_types.specs.declared.operations.Command.TheVariants.{Begin, Work, Commit, Abort}
+use Rattle.cl_types.specs.declared.operations.Command.TheVariants.{Work}
 use Rattle.cl_types.specs.declared.answers.Reply.{Reply}
 use Rattle.cl_types.specs.declared.answers.Reply.TheVariants as replies
 use Rattle.cl_types.specs.declared.answers.AbortCause.{AbortCause}

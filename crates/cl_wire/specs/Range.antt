@@ -5,9 +5,9 @@ use Rattle.std.specs.Int.{w64}
 use Rattle.cl_types.specs.Names.{is_table_name, is_key, is_value}
 use Rattle.cl_types.specs.declared.operations.TxnId.{TxnId}
 use Rattle.cl_types.specs.declared.operations.Op.{Op}
-use Rattle.cl_types.specs.declared.operations.Op.TheVariants.{Get, Put, Del, Add}
+use Rattle.cl_types.specs.declared.operations.Op.TheVariants.{Put, Add}
 use Rattle.cl_types.specs.declared.operations.Command.{Command as ClientCommand}
-use Rattle.cl_types.specs.declared.operations.Command.TheVariants.{Begin, Work, Commit, Abort}
+use Rattle.cl_types.specs.declared.operations.Command.TheVariants.{Work}
 use Rattle.cl_types.specs.declared.answers.Reply.{Reply}
 use Rattle.cl_types.specs.declared.answers.Reply.TheVariants as replies
 use Rattle.cl_types.specs.declared.answers.AbortCause.{AbortCause}

@@ -22,7 +22,7 @@ pub use decoding::decode;
 pub use encoding::encode;
 pub use laws::{
     bytes_spell_at_most_one, no_spelling_begins_another, no_spelling_is_longer,
-    spelling_and_reading_agree,
+    spelling_and_reading_agree, what_faults_mean,
 };
 pub use limits::PACKET_MAX;
 pub use packet::{Body, Packet};

@@ -1,7 +1,7 @@
 //! Worked packets, with bytes from outside the program.
 use crate::*;
 use cl_log::{Form, LogRec};
-use cl_types::{AbortCause, Answer, Command, Op, Outcome, Reply, TxnId, Value};
+use cl_types::{AbortCause, Answer, Command, NoMemory, Op, Outcome, Reply, TxnId, Value};
 use std::alloc::{AllocError, Global};
 use std::test::Fail;
 
@@ -46,7 +46,8 @@ fn read_back(rt: &HostRuntime, bytes: &[u8]) -> Result<Packet, Fail> {
             }
             Ok(packet)
         }
-        Err(_) => Err("no packet was read".into()),
+        Err(Undecoded::NoMemory) => Err(NoMemory.into()),
+        Err(Undecoded::Fault(_)) => Err("no packet was read".into()),
     }
 }
 
@@ -105,6 +106,21 @@ fn the_first_fault_is_named(rt: HostRuntime) -> Result<(), Fail> {
     assert_eq!(rt; fault_with(alloc, 25, 65), Some(WireFault::Field));
     assert_eq!(rt; fault_with(alloc, 38, 7), Some(WireFault::Field));
     assert_eq!(rt; fault_of(alloc, &[1, 16]), Some(WireFault::Kind));
+    Ok(())
+}
+
+// A table's length and bytes are one field, a value's length is a field of its own.
+#[test]
+fn a_length_out_of_range(rt: HostRuntime) -> Result<(), Fail> {
+    let alloc = rt.alloc();
+    let mut fields = [
+        5, 1, 0, 0, 0, 0, 0, 0, 0, 2, 0, 0, 0, 65, 2, 1, b't', 1, b'k', 0, 129,
+    ];
+    let bytes = spelled(alloc, 1, 16, 1, &fields)?;
+    assert_eq!(rt; fault_of(alloc, &bytes), Some(WireFault::Field));
+    fields[15] = 9;
+    let bytes = spelled(alloc, 1, 16, 1, &fields)?;
+    assert_eq!(rt; fault_of(alloc, &bytes), Some(WireFault::Short));
     Ok(())
 }
 
@@ -217,6 +233,38 @@ fn records_of_the_log(rt: HostRuntime) -> Result<(), Fail> {
     Ok(())
 }
 
+// The record 12 of virtual node 1, which writes 6 over 5.
+const SET: [u8; 39] = [
+    1, 0, 0, 0, 0, 0, 0, 0, 12, 2, 1, 0, 0, 0, 0, 0, 0, 0, 2, 1, b't', 1, b'a', 0, 0, 0, 0, 0, 0,
+    0, 11, 1, 0, 1, b'5', 1, 0, 1, b'6',
+];
+
+// Where an allocation fails, the bytes have no fault, and are read then.
+#[test]
+fn a_want_of_memory_is_no_fault_of_the_bytes(rt: HostRuntime) -> Result<(), Fail> {
+    let alloc = rt.alloc();
+    let bytes = spelled(alloc, 10, 1, 2, &SET)?;
+    let mut found = decode(alloc, &bytes);
+    if matches!(&found, Err(Undecoded::NoMemory)) {
+        found = decode(alloc, &bytes);
+    }
+    let packet = found?;
+    assert!(rt;
+        match &packet.body {
+            Body::Log(1, 12, LogRec::Set(txn, _, _, 11, Some(old), Some(new))) => {
+                *txn == TXN && old.bytes() == b"5".as_slice() && new.bytes() == b"6".as_slice()
+            }
+            _ => false,
+        }
+    );
+    let mut spelling = encode(alloc, &packet);
+    if spelling.is_err() {
+        spelling = encode(alloc, &packet);
+    }
+    assert_eq!(rt; spelling?.as_slice(), bytes.as_slice());
+    Ok(())
+}
+
 #[test]
 fn the_pieces_of_a_copy(rt: HostRuntime) -> Result<(), Fail> {
     let alloc = rt.alloc();
@@ -266,4 +314,13 @@ fn the_longest_packet(rt: HostRuntime) -> Result<(), Fail> {
     let packet = read_back(&rt, &bytes)?;
     assert!(rt; matches!(&packet.body, Body::Records(1, 1, list) if list.len() == 4));
     Ok(())
+}
+
+#[test]
+fn the_laws_are_called() {
+    spelling_and_reading_agree();
+    bytes_spell_at_most_one();
+    no_spelling_begins_another();
+    no_spelling_is_longer();
+    what_faults_mean();
 }

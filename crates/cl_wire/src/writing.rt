@@ -117,7 +117,7 @@ impl Writer {
                 self.byte(3)?;
                 self.cause(*cause)
             }
-            // They go to no controller.
+            // No controller gives these.
             Outcome::NotTxn | Outcome::InTxn | Outcome::Full => unreachable!(),
         }
     }
