@@ -1,4 +1,4 @@
--- Bytes that a source has left, or that a sink was given, where they are told; `None` tells nothing.
+-- A first part of a piece that a sink was given, where it tells its bytes; `None` tells nothing.
 use Rattle.std.specs.Prelude.{◌≡◌, ℕ, ◌<◌, Option, List, length, take}
 use Rattle.std.specs.Io.KnownBytes.{append_known}
 

@@ -47,6 +47,8 @@ impl MemSink {
 impl Sink for MemSink {
     ghost written = { λ s. Some s.given };
 
+    ghost flushed = { λ s. Some s.given };
+
     ghost faults = { λ s. s.calls.faults };
 
     /// Fails where the number of the call is listed or memory is wanting, and else takes the whole piece.

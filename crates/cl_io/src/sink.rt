@@ -1,4 +1,4 @@
-ghost use Rattle.std.specs.Prelude.{◌≡◌, ℕ, ◌<◌, ◌≤◌, Option, List, length, take, IfOk, OnErr};
+ghost use Rattle.std.specs.Prelude.{◌≡◌, ℕ, ◌<◌, ◌≤◌, Option, List, length, take, IfOk, OnOk, OnErr};
 ghost use Rattle.cl_io.specs.Faults.{Rose};
 ghost use Rattle.std.specs.Io.KnownBytes.{append_known};
 
@@ -8,6 +8,9 @@ use crate::Failed;
 pub trait Sink {
     // The bytes that were written, where the sink tells them.
     ghost written: { Self → Option (List ℕ) };
+
+    // The bytes that were brought to their end, where the sink tells them.
+    ghost flushed: { Self → Option (List ℕ) };
 
     // How many faults there were. It never falls.
     ghost faults: { Self → ℕ };
@@ -24,6 +27,7 @@ pub trait Sink {
 
     /// Brings what was written to its end.
     fn flush(&mut self) -> Result<(), Failed>
+        ensures flushed { OnOk result (flushed self.new ≡ written self.new) }
         ensures kept { written self.new ≡ written self.old }
         ensures fault { OnErr result (Rose (faults self.old) (faults self.new)) }
         ensures counted { faults self.old ≤ faults self.new };

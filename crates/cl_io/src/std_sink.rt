@@ -31,6 +31,8 @@ impl<W> StdSink<W> {
 impl<W: Write> Sink for StdSink<W> {
     ghost written = { λ _. None };
 
+    ghost flushed = { λ _. None };
+
     ghost faults = { sink_faults };
 
     /// One call of the writer's `write`. An error is a fault, and so is that it takes nothing of a

@@ -65,6 +65,17 @@ fn a_sink_in_memory_fails_where_its_maker_says(rt: HostRuntime) -> Result<(), Fa
     Ok(())
 }
 
+// The first call fails, and the empty piece makes none.
+#[test]
+fn an_empty_piece_is_written_without_a_call(rt: HostRuntime) -> Result<(), Fail> {
+    let alloc = rt.alloc();
+    let mut sink = MemSink::new(alloc, [1].to_vec(alloc)?);
+    assert!(rt; write_all(&mut sink, b"").is_ok());
+    assert!(rt; write_all(&mut sink, b"ab").is_err());
+    assert!(rt; sink.bytes().is_empty());
+    Ok(())
+}
+
 // Where an allocation fails, so does the write, and the sink takes the next one.
 #[test]
 fn a_want_of_memory_is_a_fault_of_the_sink(rt: HostRuntime) {

@@ -4,7 +4,8 @@ use Rattle.std.proofs.lemmas.Bool.{eq-eqb}
 use Rattle.std.proofs.lemmas.Bool.Decides.{eqb_tells}
 use Rattle.std.specs.List.{count_by}
 use Rattle.std.proofs.lemmas.List.Sums.{sum_by-cons}
-use Rattle.cl_serial.specs.Bytes.{whole_lines, onto_first}
+use Rattle.std.specs.List.{onto_first}
+use Rattle.cl_serial.specs.Bytes.{whole_lines}
 
 unequal : (a b : ℕ) → a ≢ b → nat_eq a b ≡ false
 unequal a b differ = elim (eqb_tells a b) [ inl same ↦ absurd (differ same.1) | inr apart ↦ apart.0 ]

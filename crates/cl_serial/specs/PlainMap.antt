@@ -22,7 +22,7 @@ no_values place = None
 abbrev pub updated : Values → Place → Option (List ℕ) → Values
 updated values place value other = if same_place place other then value else values other
 
--- an operation of a transaction, where it was done, and its outcome in the transcript
+-- an operation of a transaction: the record's place, what is done, and its outcome in the transcript, if it has one
 pub record Operation : Type 0 where
   pub place : Place
   pub op : Op

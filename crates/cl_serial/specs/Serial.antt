@@ -28,7 +28,7 @@ IsIn list x = (place : ℕ) × StandsAt list place x
 abbrev pub Asks : List Entry → TxnId → Command → Type 0
 Asks transcript name command = (exchange : Exchange) × IsIn (commands_of transcript name) exchange × (exchange.command ≡ command)
 
--- the transaction has this outcome, written at this place
+-- a command of the transaction was answered with this outcome, written at this place
 abbrev pub IsAnswered : List Entry → TxnId → Outcome → ℕ → Type 0
 IsAnswered transcript name outcome place =
     (exchange : Exchange) × IsIn (commands_of transcript name) exchange × (exchange.answer ≡ Some (outcome, place))
@@ -66,7 +66,7 @@ abbrev pub RealTimeOrder : List Entry → List TxnId → Type 0
 RealTimeOrder transcript history = (i j : ℕ) (x y : TxnId) (committed began : ℕ) → StandsAt history i x → StandsAt history j y →
     IsAnswered transcript x Committed committed → BeginsAt transcript y began → committed < began → i < j
 
--- each answer of a session answers its line of the same number, which stands before it
+-- the k-th answer of a session answers its k-th well-formed line, which stands before it
 abbrev pub AnswersFollow : List Entry → Type 0
 AnswersFollow transcript = (session k : ℕ) (outcome : Outcome) (place : ℕ) → StandsAt (answers session transcript) k (outcome, place) →
     (command : Command) × (line : ℕ) × StandsAt (questions session transcript) k (command, line) × (line < place)

@@ -7,11 +7,10 @@ use Rattle.cl_types.specs.declared.operations.Command.{Command}
 use Rattle.cl_types.specs.declared.operations.TxnId.{TxnId}
 use Rattle.cl_types.specs.declared.answers.Outcome.{Outcome}
 use Rattle.cl_lines.specs.declared.line.LineFault.{LineFault}
-use Rattle.cl_lines.specs.declared.out.Out.{Out}
 use Rattle.cl_lines.specs.declared.out.Out.TheVariants.{Answer, BadLine}
 use Rattle.cl_lines.specs.Line.{client_of, fault_of}
-use Rattle.cl_serial.specs.Transcript.{Entry, fed, written, quiet, questions, answers, command_in}
-use Rattle.cl_serial.specs.Exchanges.{Exchange, exchanges, outcome_of, pair_up, in_turn}
+use Rattle.cl_serial.specs.Transcript.{Entry, fed, written, questions, answers, command_in}
+use Rattle.cl_serial.specs.Exchanges.{Exchange, exchanges, outcome_of}
 use Rattle.cl_serial.specs.Transactions.{Session, session_of, session_after, session_step, commands_in, numbered}
 use Rattle.cl_serial.specs.Serial.{StandsAt, IsIn, IsAnswered, AnswersFollow, AnswersFitTurns, FitsTurn, RefusalsTrue, EveryLineAnswered}
 use Rattle.cl_serial.proofs.Places.{StandsAt-push, StandsAt-push_last, StandsAt-within, StandsAt-append_left}

@@ -1,17 +1,17 @@
 -- The lines that are fed, as the input goes on.
-use Rattle.std.proofs.Common.{◌≡◌, ℕ, suc, ◌+◌, List, [], ◌∷◌, ◌++◌, map, take, refl, sym, ◌∙◌, ap, subst, arith, append_assoc}
-use Rattle.std.specs.List.{flat_map}
+use Rattle.std.proofs.Common.{◌≡◌, ℕ, ◌+◌, List, [], ◌∷◌, ◌++◌, map, take, refl, sym, ◌∙◌, ap, subst, append_assoc}
+use Rattle.std.specs.List.{flat_map, enumerate_from}
 use Rattle.std.proofs.lemmas.List.{append-nil, map-append}
 use Rattle.std.proofs.lemmas.Grind.{flat_map-append}
 use Rattle.cl_lines.specs.declared.out.Out.{Out}
 use Rattle.cl_serial.specs.declared.transcript.Said.{Said}
 use Rattle.cl_serial.specs.Transcript.{Entry, fed, written, gather, fed_lines, entry_of, entry_text}
-use Rattle.cl_serial.specs.Bytes.{whole_lines, kept_line, numbered_from, lines_of}
+use Rattle.cl_serial.specs.Bytes.{whole_lines, kept_line, lines_of}
 use Rattle.cl_serial.proofs.Gathered.{fed_lines-fed, fed_lines-written}
 
 -- the lines so far and those of the rest are all lines
 abbrev pub FedSoFar : List Entry → ℕ → List ℕ → List ℕ → Type 0
-FedSoFar transcript number rest bytes = fed_lines transcript ++ numbered_from (number + 1) (map kept_line (whole_lines rest)) ≡ lines_of bytes
+FedSoFar transcript number rest bytes = fed_lines transcript ++ enumerate_from (number + 1) (map kept_line (whole_lines rest)) ≡ lines_of bytes
 
 pub FedSoFar-start : (transcript : List Entry) (bytes : List ℕ) → transcript ≡ [] → FedSoFar transcript 0 bytes bytes
 unfolding gather
@@ -23,21 +23,19 @@ pub FedSoFar-more : (old new : List Entry) (number : ℕ) (rest line after bytes
     new ≡ (old ++ fed (number + 1) (kept_line line) ∷ []) ++ written out ∷ [] → FedSoFar new (number + 1) after bytes
 FedSoFar-more old new number rest line after bytes out so_far first grown =
     let P : List Entry → Type 0 = λ t. FedSoFar t (number + 1) after bytes in
-    let tail : List (ℕ × List ℕ) = numbered_from (number + 1 + 1) (map kept_line (whole_lines after)) in
+    let tail : List (ℕ × List ℕ) = enumerate_from (number + 1 + 1) (map kept_line (whole_lines after)) in
     let lines : fed_lines ((old ++ fed (number + 1) (kept_line line) ∷ []) ++ written out ∷ []) ≡ fed_lines old ++ (number + 1, kept_line line) ∷ [] =
     fed_lines-written (old ++ fed (number + 1) (kept_line line) ∷ []) out ∙ fed_lines-fed old (number + 1) (kept_line line) in
-    let next : suc (number + 1) ≡ number + 1 + 1 = omega arith in
     subst P (sym grown)
     (ap (λ list. list ++ tail) lines
     ∙ append_assoc (fed_lines old) ((number + 1, kept_line line) ∷ []) tail
-    ∙ ap (λ n. fed_lines old ++ ((number + 1, kept_line line) ∷ numbered_from n (map kept_line (whole_lines after)))) (sym next)
-    ∙ ap (λ lines. fed_lines old ++ numbered_from (number + 1) (map kept_line lines)) (sym first)
+    ∙ ap (λ lines. fed_lines old ++ enumerate_from (number + 1) (map kept_line lines)) (sym first)
     ∙ so_far)
 
 pub FedSoFar-end : (transcript : List Entry) (number : ℕ) (rest bytes : List ℕ) → FedSoFar transcript number rest bytes → rest ≡ [] → fed_lines transcript ≡ lines_of bytes
 unfolding whole_lines
 FedSoFar-end transcript number rest bytes so_far none =
-    let P : List ℕ → Type 0 = λ r. fed_lines transcript ++ numbered_from (number + 1) (map kept_line (whole_lines r)) ≡ lines_of bytes in
+    let P : List ℕ → Type 0 = λ r. fed_lines transcript ++ enumerate_from (number + 1) (map kept_line (whole_lines r)) ≡ lines_of bytes in
     sym (append-nil (fed_lines transcript)) ∙ subst P none so_far
 
 -- what the entries write, with one more

@@ -1,13 +1,14 @@
 -- What was read so far, piece by piece.
 use Rattle.std.proofs.Common.{◌≡◌, ℕ, ◌+◌, ◌-◌, ◌<◌, ◌≤◌, inl, inr, ◌==◌, not, List, [], ◌++◌, length, get_or, Option, Ok, Err, refl, sym, ◌∙◌, ap, subst, arith}
 use Rattle.std.proofs.lemmas.Bool.{cases_lt}
-use Rattle.std.proofs.lemmas.List.{length-append}
+use Rattle.std.proofs.lemmas.List.{length-append, take_at}
 use Rattle.std.specs.Io.KnownBytes.{prepend_known}
 use Rattle.std.proofs.KnownBytes.{prepend_known-nil}
 use Rattle.cl_io.proofs.ToldLemmas.{prepend_known-more}
 use Rattle.cl_serial.specs.Bytes.{whole_lines}
 use Rattle.cl_serial.proofs.LineLemmas.{newlines, one_if, length-whole_lines_append}
-use Rattle.clustra.specs.Input.{IsTooMuch, Reads, EndsReading, AddsPiece}
+use Rattle.clustra.specs.Input.{IsTooMuch, LastPieceIsTooMuch}
+use Rattle.clustra.specs.Reading.{Reads, EndsReading, AddsPiece}
 use Rattle.clustra.specs.declared.input.InputFault.{InputFault}
 use Rattle.clustra.specs.declared.input.InputFault.TheVariants.{Read, TooMuch, NoMemory}
 
@@ -47,13 +48,26 @@ ReadSoFar-more start now next count count' bytes piece grown done h more adds co
   fits = let P : List ℕ → Type 0 = λ list. IsTooMuch list → ⊥ in subst P (sym adds.0) adds.1;
 }
 
+-- a piece that made it too much was the last
+LastPieceIsTooMuch-add : (bytes piece : List ℕ) → (IsTooMuch bytes → ⊥) → 0 < length piece → length piece ≤ 65536 → LastPieceIsTooMuch (bytes ++ piece)
+LastPieceIsTooMuch-add bytes piece fits some small =
+    let e = length-append bytes piece in
+    let P : List ℕ → Type 0 = λ list. IsTooMuch list → ⊥ in
+    record {
+      before = length bytes;
+      some = omega (arith, e, some);
+      at_most = omega (arith, e, small);
+      within_limits = subst P (sym (take_at bytes piece (length bytes) refl)) fits;
+    }
+
 -- the piece could not be added
 pub Reads-refused : {V : Type 0} (view : V → List ℕ) (start now next : Option (List ℕ)) (count : ℕ) (bytes piece grown : List ℕ) (fault : InputFault) → ReadSoFar start now count bytes → now ≡ prepend_known piece next →
-    AddsPiece bytes piece grown (Err fault) → length bytes + length piece ≤ 25700001 → Reads view start next (Err fault)
-Reads-refused view start now next count bytes piece grown fault h more adds short = record {
+    AddsPiece bytes piece grown (Err fault) → length bytes + length piece ≤ 25700001 → 0 < length piece → length piece ≤ 65536 → Reads view start next (Err fault)
+Reads-refused view start now next count bytes piece grown fault h more adds short some small = record {
   read = bytes ++ piece;
   taken = prepend_known-more start now next bytes piece h.taken more;
   within = let e = length-append bytes piece in omega (arith, e, short);
+  stops = λ many. LastPieceIsTooMuch-add bytes piece h.fits some small;
   ends = by_fault fault adds;
 }
   where
@@ -74,6 +88,7 @@ Reads-fault view start now next count bytes h same = record {
   read = bytes;
   taken = h.taken ∙ ap (prepend_known bytes) (sym same);
   within = omega (arith, few_bytes_of bytes h.fits);
+  stops = λ many. absurd (h.fits many);
   ends = h.fits;
 }
 
@@ -84,6 +99,7 @@ Reads-end view start now next count bytes none all h more is_none viewed = recor
   read = bytes;
   taken = h.taken ∙ ap (prepend_known bytes) (more ∙ ap (λ list. prepend_known list next) is_none ∙ prepend_known-nil next);
   within = omega (arith, few_bytes_of bytes h.fits);
+  stops = λ many. absurd (h.fits many);
   ends = (viewed, h.fits);
 }
 
@@ -94,5 +110,6 @@ Reads-nothing view start = record {
   read = [];
   taken = sym (prepend_known-nil start);
   within = omega arith;
+  stops = λ many. absurd (within [] (omega arith) (omega arith) many);
   ends = within [] (omega arith) (omega arith);
 }

@@ -1,19 +1,16 @@
 -- One more line that is refused: what was promised of the transcript holds of the longer one.
-use Rattle.std.proofs.Common.{◌≡◌, ℕ, ◌+◌, ◌<◌, List, [], ◌∷◌, ◌++◌, length, take, Option, Some, None, IsSome, sym, ◌∙◌, ap, subst, arith}
+use Rattle.std.proofs.Common.{◌≡◌, ℕ, ◌+◌, ◌<◌, List, [], ◌∷◌, ◌++◌, length, Option, Some, None, sym, ◌∙◌, ap, subst, arith}
 use Rattle.std.proofs.lemmas.List.{append-nil}
 use Rattle.cl_types.specs.declared.operations.TxnId.{TxnId}
-use Rattle.cl_types.specs.declared.answers.Outcome.{Outcome}
 use Rattle.cl_types.specs.declared.answers.Outcome.TheVariants.{Committed}
 use Rattle.cl_lines.specs.declared.line.LineFault.{LineFault}
 use Rattle.cl_lines.specs.declared.out.Out.TheVariants.{Answer, BadLine}
 use Rattle.cl_lines.specs.Line.{client_of, fault_of}
 use Rattle.cl_serial.specs.Transcript.{Entry, fed, written, questions, answers, command_in, faulty_lines, numbered_fault}
-use Rattle.cl_serial.specs.Exchanges.{Exchange, exchanges, outcome_of, pair_up, in_turn}
-use Rattle.cl_serial.specs.Transactions.{Session, session_of, session_after, commands_in, numbered}
+use Rattle.cl_serial.specs.Transactions.{Session, session_of}
 use Rattle.cl_types.specs.Places.{Place}
 use Rattle.cl_serial.specs.PlainMap.{Values}
-use Rattle.cl_serial.specs.Serial.{StandsAt, IsIn, IsAnswered, CommittedForMembers, AnswersFollow, AnswersFitTurns, FitsTurn, RefusalsTrue, EveryLineAnswered}
-use Rattle.cl_serial.proofs.Growth.{all_of}
+use Rattle.cl_serial.specs.Serial.{StandsAt, IsIn, IsAnswered, CommittedForMembers, RefusalsTrue, EveryLineAnswered}
 use Rattle.clustra.specs.Kept.{Kept, Served}
 use Rattle.clustra.proofs.Turns.{Kept-idle}
 use Rattle.clustra.proofs.Pairs.{with_pair, length-with_pair, questions-with_pair, answers-with_pair, faulty_lines-with_pair, refusals-with_pair}

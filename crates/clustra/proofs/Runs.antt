@@ -2,7 +2,8 @@
 use Rattle.std.proofs.Common.{◌≡◌, ℕ, ◌⊎◌, inl, inr, List, [], Option, Ok, Err, refl, sym, ◌∙◌, ap, subst, arith}
 use Rattle.cl_serial.specs.Transcript.{Entry, gather, fed_lines}
 use Rattle.cl_serial.specs.Bytes.{lines_of, FeedsFirstLines}
-use Rattle.clustra.specs.Input.{IsTooMuch, Reads, EndsReading}
+use Rattle.clustra.specs.Input.{IsTooMuch}
+use Rattle.clustra.specs.Reading.{Reads, EndsReading}
 use Rattle.clustra.specs.Run.{ReadsInput}
 use Rattle.clustra.specs.declared.input.InputFault.{InputFault}
 use Rattle.clustra.specs.declared.input.InputFault.TheVariants.{Read, TooMuch, NoMemory}
@@ -21,6 +22,7 @@ ReadsInput-all view status before after transcript all h first whole ended =
       read = h.read;
       taken = h.taken;
       within = h.within;
+      stops = h.stops;
       first_lines = subst P h.ends.0 first;
       all_lines = λ done. whole done ∙ ap lines_of h.ends.0;
       too_much = (λ five. absurd (not_five status ended five), λ many. absurd (h.ends.1 many));
@@ -43,6 +45,7 @@ ReadsInput-fault view status before after transcript fault h none ended from to 
       read = h.read;
       taken = h.taken;
       within = h.within;
+      stops = h.stops;
       first_lines = subst P (sym none) (lines_of h.read, refl);
       all_lines = λ done. absurd (not_zero ended done);
       too_much = both;

@@ -1,4 +1,4 @@
--- What the server keeps after every line, of the one session and its transactions. The guarantee does not rest on these words.
+-- What the server keeps after every line, of the one session and its transactions. No public clause cites this module.
 use Rattle.std.specs.Prelude.{◌≡◌, ℕ, zero, suc, ◌+◌, ◌<◌, ◌≤◌, false, List, [], ◌∷◌, ◌++◌, length, Option, Some, None}
 use Rattle.std.specs.List.{flat_map, AllByRecursion}
 use Rattle.std.specs.Option.{option_to_list}

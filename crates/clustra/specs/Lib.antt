@@ -1,5 +1,6 @@
 pub mod Input
 pub mod Kept
+pub mod Reading
 pub mod Run
 pub mod Server
 pub mod Turn

@@ -10,19 +10,21 @@ use Rattle.cl_serial.specs.Transactions.{session_of, commands_in}
 use Rattle.cl_serial.specs.PlainMap.{Values, operations, no_values, after_operations, RepliesAgree}
 use Rattle.cl_serial.specs.Serial.{StandsAt, operations_of}
 use Rattle.cl_serial.specs.Bytes.{lines_of, FeedsFirstLines}
-use Rattle.clustra.specs.Input.{IsTooMuch}
+use Rattle.clustra.specs.Input.{IsTooMuch, LastPieceIsTooMuch}
 
 -- the words are the one word serve
 abbrev pub AreServe : List (List ℕ) → Type 0
 AreServe words = words ≡ codes "serve" ∷ []
 
--- where the source and the sink tell nothing, these bytes are not determined; where they do, they are those read
+-- where the source tells nothing, these bytes are not determined; where it tells its bytes, they are those that it gave
 pub record ReadsInput (status : ℕ) (before after : Option (List ℕ)) (transcript : List Entry) : Type 0 where
   -- the bytes that were read
   pub read : List ℕ
   pub taken : before ≡ prepend_known read after
   -- no further than one byte past the limit
   pub within : length read ≤ 25700001
+  -- and no further than the piece that makes it too much
+  pub stops : IsTooMuch read → LastPieceIsTooMuch read
   -- the lines that were fed are the first lines of these bytes
   pub first_lines : FeedsFirstLines transcript read
   -- and all of them where the run is done
@@ -43,7 +45,7 @@ OpenRepliesAgree transcript history = (session : ℕ) →
 abbrev pub NeverAborts : List Entry → Type 0
 NeverAborts transcript = (session place : ℕ) (cause : AbortCause) → StandsAt transcript place (written (Answer session (Aborted cause))) → ⊥
 
--- what was written is the first part of the full text
+-- what was written is a first part of the full text, perhaps none or all
 pub record WritesText (before after : Option (List ℕ)) (text : List ℕ) : Type 0 where
   pub count : ℕ
   pub appended : after ≡ append_known before (take count text)

@@ -1,4 +1,4 @@
--- What the server keeps together. The guarantee does not rest on these words.
+-- What the server keeps together. No public clause cites this module.
 use Rattle.std.specs.Prelude.{◌≡◌, ℕ, List, ◌∷◌, [], ◌++◌}
 use Rattle.cl_types.specs.AppendOnlyList.{entries}
 use Rattle.cl_lines.specs.declared.out.Out.{Out}

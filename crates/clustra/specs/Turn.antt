@@ -1,4 +1,5 @@
--- One turn of the session: what its command is answered, and what it leaves. The guarantee does not rest on these words.
+-- One turn of the session: what its command is answered, and what it leaves. No public clause cites this module.
+-- No line asks ABORT yet (`IsAsked`): what these functions say of it is never used.
 use Rattle.std.specs.Prelude.{ℕ, ◌+◌, nat_eq, if◌then◌else◌, List, [], ◌∷◌, ◌++◌, Option, Some, None}
 use Rattle.cl_types.specs.declared.operations.Command.{Command}
 use Rattle.cl_types.specs.declared.operations.Command.TheVariants.{Begin, Work, Commit, Abort}

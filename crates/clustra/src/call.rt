@@ -1,5 +1,5 @@
 //! The top call of the program.
-ghost use Rattle.std.specs.Prelude.{◌≡◌, ◌≤◌, ◌⊎◌, ◌↔◌, true, false, map, None, IsSome, IfSome, string_bytes};
+ghost use Rattle.std.specs.Prelude.{◌≡◌, ◌≤◌, ◌⊎◌, ◌↔◌, true, false, [], map, None, IsSome, IfSome, string_bytes};
 ghost use Rattle.cl_types.specs.AppendOnlyList.{entries};
 ghost use Rattle.cl_io.specs.Faults.{Rose};
 ghost use Rattle.std.specs.Io.KnownBytes.{IsAtEnd};
@@ -49,18 +49,26 @@ pub fn clustra<R: Threads + Wait + Sync, S: Source, K: Sink, G: Gate + Sync>(
     ensures open_replies { IfSome result.kept (λ kept. OpenRepliesAgree (transcript_of kept.transcript) (entries kept.history)) }
     ensures unaborted { IfSome result.kept (λ kept. NeverAborts (transcript_of kept.transcript)) }
 
-    // The transcript is of the lines that were read, and its text is what was written.
+    // Every line that was fed is answered. At status 3 and 5 none was.
+    ensures answered { IfSome result.kept (λ kept. EveryLineAnswered (transcript_of kept.transcript)) }
+    ensures nothing_fed { IfSome result.kept (λ kept. (result.status ≡ 3) ⊎ (result.status ≡ 5)
+        → (transcript_of kept.transcript ≡ []) × (entries kept.history ≡ [])) }
+
+    // The transcript is of the lines that were read, and its text is what was written. At status 3, 5 and 6 the sink
+    // is as it was.
     ensures read { IfSome result.kept (λ kept.
         ReadsInput result.status (S.left source.old) (S.left source.new) (transcript_of kept.transcript)) }
     ensures written { IfSome result.kept (λ kept.
         WritesText (K.written sink.old) (K.written sink.new) (full_text (transcript_of kept.transcript))) }
     ensures all { IfSome result.kept (λ kept. (result.status ≡ 0) ⊎ ((result.status ≡ 3) ⊎ (result.status ≡ 5))
         → WritesAll (K.written sink.old) (K.written sink.new) (full_text (transcript_of kept.transcript))) }
-    ensures unwritten { (result.status ≡ 3) ⊎ (result.status ≡ 5) → K.written sink.new ≡ K.written sink.old }
+    ensures unwritten { (result.status ≡ 3) ⊎ ((result.status ≡ 5) ⊎ (result.status ≡ 6)) → sink.new ≡ sink.old }
+
+    // At status 0 what was written was flushed.
+    ensures flushed { result.status ≡ 0 → K.flushed sink.new ≡ K.written sink.new }
 
     // Each status has its cause.
     ensures end { result.status ≡ 0 → IsAtEnd (S.left source.new) }
-    ensures answered { IfSome result.kept (λ kept. result.status ≡ 0 → EveryLineAnswered (transcript_of kept.transcript)) }
     ensures read_fault { result.status ≡ 3 → Rose (S.faults source.old) (S.faults source.new) }
     ensures write_fault { result.status ≡ 4 → Rose (K.faults sink.old) (K.faults sink.new) }
     ensures counted { (S.faults source.old ≤ S.faults source.new) × (K.faults sink.old ≤ K.faults sink.new) }

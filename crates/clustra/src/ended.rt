@@ -19,11 +19,11 @@ pub struct Ended {
 pub const DONE: u8 = 0;
 /// The words are not of the grammar. Nothing was read or written.
 pub const USAGE: u8 = 2;
-/// A read failed.
+/// A read failed. Nothing was fed or written.
 pub const READ_FAULT: u8 = 3;
-/// A write failed.
+/// A write or the flush failed, or a write took nothing of a piece.
 pub const WRITE_FAULT: u8 = 4;
-/// There is more input than a run takes.
+/// There is more input than a run takes. Nothing was fed or written.
 pub const TOO_MUCH_INPUT: u8 = 5;
-/// Memory was wanting.
+/// Memory was wanting. Nothing was written.
 pub const NO_MEMORY: u8 = 6;

@@ -2,7 +2,7 @@
 ghost use Rattle.std.specs.Prelude.{◌≡◌, ℕ, ◌+◌, ◌-◌, ◌<◌, ◌≤◌, ◌==◌, ◌^◌, not, if◌then◌else◌, length, take, count_by, slice_index, IfOk, OnOk, OnErr, IfErr, Err, vec_len};
 ghost use Rattle.cl_io.specs.Faults.{Rose};
 ghost use Rattle.std.specs.Io.KnownBytes.{prepend_known, IsAtEnd};
-ghost use Rattle.clustra.specs.Input.{Reads, AddsPiece};
+ghost use Rattle.clustra.specs.Reading.{Reads, AddsPiece};
 
 use cl_io::{Failed, Source};
 use std::alloc::{AllocError, Global};

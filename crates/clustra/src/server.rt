@@ -47,6 +47,7 @@ impl Server {
     pub(crate) fn new(alloc: Global) -> Server
         ensures serving { IsServing result }
         ensures transcript { transcript_of result.transcript ≡ [] }
+        ensures history { entries result.history ≡ [] }
         ensures begun { result.begun ≡ 0 }
     {
         Server {
@@ -194,6 +195,7 @@ impl Server {
         ensures unaborted { NeverAborts (transcript_of result.transcript) }
         ensures answered { EveryLineAnswered (transcript_of result.transcript) }
         ensures transcript { result.transcript ≡ self.transcript }
+        ensures history { result.history ≡ self.history }
     {
         Kept {
             transcript: self.transcript,

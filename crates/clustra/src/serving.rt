@@ -22,6 +22,8 @@ use std::alloc::Global;
 fn write_transcript<K: Sink>(alloc: Global, transcript: &Transcript, sink: &mut K) -> u8
     ensures written { WritesText (K.written sink.old) (K.written sink.new) (full_text (transcript_of transcript.now)) }
     ensures all { result ≡ 0 → WritesAll (K.written sink.old) (K.written sink.new) (full_text (transcript_of transcript.now)) }
+    ensures unwritten { result ≡ 6 → sink.new ≡ sink.old }
+    ensures flushed { result ≡ 0 → K.flushed sink.new ≡ K.written sink.new }
     ensures fault { result ≡ 4 → Rose (K.faults sink.old) (K.faults sink.new) }
     ensures counted { K.faults sink.old ≤ K.faults sink.new }
     ensures status { (result ≡ 0) ⊎ ((result ≡ 4) ⊎ (result ≡ 6)) }
@@ -48,6 +50,8 @@ fn answer_input<K: Sink>(alloc: Global, server: &mut Server, bytes: &[u8], sink:
     ensures lines { result ≡ 0 → fed_lines (transcript_of server.new.transcript) ≡ lines_of bytes.now }
     ensures written { WritesText (K.written sink.old) (K.written sink.new) (full_text (transcript_of server.new.transcript)) }
     ensures all { result ≡ 0 → WritesAll (K.written sink.old) (K.written sink.new) (full_text (transcript_of server.new.transcript)) }
+    ensures unwritten { result ≡ 6 → sink.new ≡ sink.old }
+    ensures flushed { result ≡ 0 → K.flushed sink.new ≡ K.written sink.new }
     ensures fault { result ≡ 4 → Rose (K.faults sink.old) (K.faults sink.new) }
     ensures counted { K.faults sink.old ≤ K.faults sink.new }
     ensures status { (result ≡ 0) ⊎ ((result ≡ 4) ⊎ (result ≡ 6)) }
@@ -79,11 +83,13 @@ fn run<S: Source, K: Sink>(alloc: Global, server: &mut Server, source: &mut S, s
     requires unfed { transcript_of server.old.transcript ≡ [] }
     requires unbegun { server.old.begun ≡ 0 }
     ensures serving { IsServing server.new }
+    ensures nothing_fed { (result ≡ 3) ⊎ (result ≡ 5) → server.new ≡ server.old }
     ensures read { ReadsInput result (S.left source.old) (S.left source.new) (transcript_of server.new.transcript) }
     ensures written { WritesText (K.written sink.old) (K.written sink.new) (full_text (transcript_of server.new.transcript)) }
     ensures all { (result ≡ 0) ⊎ ((result ≡ 3) ⊎ (result ≡ 5))
         → WritesAll (K.written sink.old) (K.written sink.new) (full_text (transcript_of server.new.transcript)) }
-    ensures unwritten { (result ≡ 3) ⊎ (result ≡ 5) → K.written sink.new ≡ K.written sink.old }
+    ensures unwritten { (result ≡ 3) ⊎ ((result ≡ 5) ⊎ (result ≡ 6)) → sink.new ≡ sink.old }
+    ensures flushed { result ≡ 0 → K.flushed sink.new ≡ K.written sink.new }
     ensures end { result ≡ 0 → IsAtEnd (S.left source.new) }
     ensures read_fault { result ≡ 3 → Rose (S.faults source.old) (S.faults source.new) }
     ensures write_fault { result ≡ 4 → Rose (K.faults sink.old) (K.faults sink.new) }
@@ -101,13 +107,16 @@ pub(crate) fn serve<S: Source, K: Sink>(alloc: Global, source: &mut S, sink: &mu
     ensures serializable { Serializable (transcript_of result.1.transcript) (entries result.1.history) }
     ensures open_replies { OpenRepliesAgree (transcript_of result.1.transcript) (entries result.1.history) }
     ensures unaborted { NeverAborts (transcript_of result.1.transcript) }
+    ensures answered { EveryLineAnswered (transcript_of result.1.transcript) }
+    ensures nothing_fed { (result.0 ≡ 3) ⊎ (result.0 ≡ 5)
+        → (transcript_of result.1.transcript ≡ []) × (entries result.1.history ≡ []) }
     ensures read { ReadsInput result.0 (S.left source.old) (S.left source.new) (transcript_of result.1.transcript) }
     ensures written { WritesText (K.written sink.old) (K.written sink.new) (full_text (transcript_of result.1.transcript)) }
     ensures all { (result.0 ≡ 0) ⊎ ((result.0 ≡ 3) ⊎ (result.0 ≡ 5))
         → WritesAll (K.written sink.old) (K.written sink.new) (full_text (transcript_of result.1.transcript)) }
-    ensures unwritten { (result.0 ≡ 3) ⊎ (result.0 ≡ 5) → K.written sink.new ≡ K.written sink.old }
+    ensures unwritten { (result.0 ≡ 3) ⊎ ((result.0 ≡ 5) ⊎ (result.0 ≡ 6)) → sink.new ≡ sink.old }
+    ensures flushed { result.0 ≡ 0 → K.flushed sink.new ≡ K.written sink.new }
     ensures end { result.0 ≡ 0 → IsAtEnd (S.left source.new) }
-    ensures answered { EveryLineAnswered (transcript_of result.1.transcript) }
     ensures read_fault { result.0 ≡ 3 → Rose (S.faults source.old) (S.faults source.new) }
     ensures write_fault { result.0 ≡ 4 → Rose (K.faults sink.old) (K.faults sink.new) }
     ensures counted { (S.faults source.old ≤ S.faults source.new) × (K.faults sink.old ≤ K.faults sink.new) }

@@ -1,5 +1,6 @@
 use crate::call::clustra;
 use cl_io::{MemSink, MemSource, NoGate};
+use cl_types::NoMemory;
 use std::alloc::{AllocError, Global};
 use std::sync::Wait;
 use std::test::Fail;
@@ -28,12 +29,13 @@ fn served<'a>(input: &'a [u8], output: &'a [u8]) -> Case<'a> {
     }
 }
 
-/// Whether a run in memory ends as the case says.
+/// Whether a run in memory ends as the case says, unless memory is wanting: of the server, or of the sink, which then
+/// fails a write.
 fn ends_so<R: Threads + Wait + Sync>(
     rt: &R,
     alloc: Global,
     case: &Case<'_>,
-) -> Result<bool, AllocError> {
+) -> Result<bool, NoMemory> {
     let mut words = Vec::new(alloc);
     words.push(String::from_str(alloc, case.word)?)?;
     let mut source = MemSource::new(
@@ -42,6 +44,10 @@ fn ends_so<R: Threads + Wait + Sync>(
     );
     let mut sink = MemSink::new(alloc, Vec::from_slice(alloc, case.failing_writes)?);
     let ended = clustra(rt, alloc, &words, &mut source, &mut sink, &NoGate);
+    let is_wanting = ended.status == 6 || ended.status == 4 && sink.bytes() != case.output;
+    if is_wanting && case.output.starts_with(sink.bytes()) {
+        return Err(NoMemory);
+    }
     Ok(ended.status == case.status && sink.bytes() == case.output)
 }
 
@@ -91,6 +97,28 @@ fn runs_end_as_they_must(rt: HostRuntime) -> Result<(), Fail> {
     ];
     for case in &cases {
         assert!(rt; ends_so(&rt, rt.alloc(), case)?);
+    }
+    Ok(())
+}
+
+// Where an allocation fails, the run says so, and what was written is a first part of its text, perhaps none.
+#[test]
+fn a_want_of_memory_has_its_status(rt: HostRuntime) -> Result<(), Fail> {
+    let alloc = rt.alloc();
+    let words = [String::from_str(alloc, "serve")?];
+    let input = Vec::from_slice(alloc, FIRST_TRANSACTION)?;
+    let mut source = MemSource::new(input, Vec::new(alloc));
+    let mut sink = MemSink::new(alloc, Vec::new(alloc));
+    let ended = clustra(&rt, alloc, &words, &mut source, &mut sink, &NoGate);
+    let replies = b"1 OK\n1 OK\n1 VAL x\n1 COMMITTED\n".as_slice();
+    match ended.status {
+        0 => assert_eq!(rt; sink.bytes(), replies),
+        // The memory of the sink is wanting: a failed write.
+        4 => assert!(rt; sink.bytes().is_empty()),
+        status => {
+            assert_eq!(rt; status, 6);
+            assert!(rt; sink.bytes().is_empty());
+        }
     }
     Ok(())
 }

@@ -38,3 +38,7 @@ returns-in-Err-clause-reads g c =
     (c.in-Ok-read_piece.ensures.taken ∙ ap (λ list. prepend_known list (g.S.Source.left c.read_piece.new.source)) (sym filled)) c.in-Err.ensures.adds
     (let size = length-take c.in-Ok-read_piece.count c.deref.result.now in
     omega (arith, size, c.in-Ok-read_piece.ensures.within, c.pieces.invariant.few_bytes))
+    (let size = length-take c.in-Ok-read_piece.count c.deref.result.now in
+    omega (arith, size, c.in-Ok-read_piece.ensures.within, c.deref.ensures, c.pieces.invariant.buffer_is, c.if-count-eq0))
+    (let size = length-take c.in-Ok-read_piece.count c.deref.result.now in
+    omega (arith, size, c.in-Ok-read_piece.ensures.within))

@@ -1,0 +1,30 @@
+-- How the input is read, piece by piece, and how that ends. No public clause cites this module.
+use Rattle.std.specs.Prelude.{◌≡◌, ℕ, ◌≤◌, List, ◌++◌, length, Option, Result, Ok, Err}
+use Rattle.std.specs.Io.KnownBytes.{prepend_known}
+use Rattle.clustra.specs.Input.{IsTooMuch, LastPieceIsTooMuch}
+use Rattle.clustra.specs.declared.input.InputFault.{InputFault}
+use Rattle.clustra.specs.declared.input.InputFault.TheVariants.{Read, TooMuch, NoMemory}
+
+-- how reading these bytes ended: with all of them, or with a fault
+abbrev pub EndsReading : {V : Type 0} → (V → List ℕ) → Result V InputFault → List ℕ → Type 0
+EndsReading view (Ok bytes) read = (view bytes ≡ read) × (IsTooMuch read → ⊥)
+EndsReading view (Err Read) read = IsTooMuch read → ⊥
+EndsReading view (Err TooMuch) read = IsTooMuch read
+EndsReading view (Err NoMemory) read = IsTooMuch read → ⊥
+
+-- these bytes were read, and reading ended so
+pub record Reads {V : Type 0} (view : V → List ℕ) (before after : Option (List ℕ)) (result : Result V InputFault) : Type 0 where
+  pub read : List ℕ
+  pub taken : before ≡ prepend_known read after
+  -- no further than one byte past the limit
+  pub within : length read ≤ 25700001
+  -- and no further than the piece that makes it too much
+  pub stops : IsTooMuch read → LastPieceIsTooMuch read
+  pub ends : EndsReading view result read
+
+-- the piece was added, or there is too much with it, or no room for it
+abbrev pub AddsPiece : List ℕ → List ℕ → List ℕ → Result (Unit {0}) InputFault → Type 0
+AddsPiece old piece new (Ok done) = (new ≡ old ++ piece) × (IsTooMuch (old ++ piece) → ⊥)
+AddsPiece old piece new (Err Read) = ⊥
+AddsPiece old piece new (Err TooMuch) = IsTooMuch (old ++ piece)
+AddsPiece old piece new (Err NoMemory) = IsTooMuch (old ++ piece) → ⊥
