@@ -115,14 +115,29 @@ fn done(alloc: Global, op: &Op, old: Option<&[u8]>) -> Result<(Reply, Option<Val
 #[test]
 fn whole_values_are_read_and_written(rt: HostRuntime) -> Result<(), Fail> {
     let alloc = rt.alloc();
-    let x = Value::read(alloc, b"x")?;
     let put = Op::Put(value(alloc, b"y")?);
-    assert_eq!(rt; done(alloc, &Op::Get, Some(b"x"))?.1, x);
-    assert_eq!(rt; done(alloc, &Op::Get, None)?.0, Reply::Absent);
-    assert_eq!(rt; done(alloc, &put, Some(b"x"))?.1, Value::read(alloc, b"y")?);
-    assert_eq!(rt; done(alloc, &put, None)?.0, Reply::Stored);
-    assert_eq!(rt; done(alloc, &Op::Del, Some(b"x"))?, (Reply::Stored, None));
-    assert_eq!(rt; done(alloc, &Op::Del, None)?, (Reply::Absent, None));
+    let (x, y) = (b"x".as_slice(), b"y".as_slice());
+    // The operation, the value before and after it, and whether the reply is Stored or Absent.
+    let cases = [
+        (&put, Some(x), Some(y), (true, false)),
+        (&put, None, Some(y), (true, false)),
+        (&Op::Del, Some(x), None, (true, false)),
+        (&Op::Del, None, None, (false, true)),
+        (&Op::Get, Some(x), Some(x), (false, false)),
+        (&Op::Get, None, None, (false, true)),
+    ];
+    for (op, old, new, wanted) in cases {
+        let (reply, left) = done(alloc, op, old)?;
+        assert_eq!(rt; (reply == Reply::Stored, reply == Reply::Absent), wanted);
+        assert!(rt; left.as_ref().map(|value| value.bytes()) == new);
+    }
+    Ok(())
+}
+
+#[test]
+fn a_read_gives_the_value(rt: HostRuntime) -> Result<(), Fail> {
+    let (reply, _) = done(rt.alloc(), &Op::Get, Some(b"x"))?;
+    assert!(rt; reply == Reply::Found(value(rt.alloc(), b"x")?));
     Ok(())
 }
 
@@ -157,27 +172,21 @@ fn additions_end_within_signed_64_bits(rt: HostRuntime) -> Result<(), Fail> {
 #[test]
 fn lists_keep_their_items(rt: HostRuntime) -> Result<(), Fail> {
     let mut list: GrowingList<u16> = GrowingList::new(rt.alloc());
-    list.reserve(2)?;
     list.push(5)?;
     list.push(7)?;
-    assert_eq!(rt; list.as_slice(), [5, 7].as_slice());
-    assert_eq!(rt; list.at(1).copied(), Some(7));
-    assert_eq!(rt; list.at(2), None);
-    assert_eq!(rt; list.pop(), Some(7));
-    assert_eq!(rt; list.len(), 1);
-    assert!(rt; !list.is_empty());
+    assert!(rt; list.as_slice() == [5, 7].as_slice() && list.len() == 2);
+    assert!(rt; list.at(1).copied() == Some(7) && list.at(2).is_none());
+    assert!(rt; list.pop() == Some(7) && list.len() == 1 && !list.is_empty());
+    Ok(())
+}
 
-    let mut text = Text::new(rt.alloc());
-    text.push(b'a')?;
-    assert_eq!(rt; text.bytes(), b"a".as_slice());
-
-    let mut log: AppendOnlyList<u16> = AppendOnlyList::new(rt.alloc());
-    assert!(rt; log.is_empty());
-    log.reserve(1)?;
-    log.push(9)?;
-    assert_eq!(rt; log.as_slice(), [9].as_slice());
-    assert_eq!(rt; log.at(0).copied(), Some(9));
-    assert_eq!(rt; log.len(), 1);
+#[test]
+fn append_only_lists_keep_their_entries(rt: HostRuntime) -> Result<(), Fail> {
+    let mut list: AppendOnlyList<u16> = AppendOnlyList::new(rt.alloc());
+    assert!(rt; list.is_empty());
+    list.push(9)?;
+    assert!(rt; list.as_slice() == [9].as_slice() && list.len() == 1);
+    assert!(rt; list.at(0).copied() == Some(9) && list.at(1).is_none());
     Ok(())
 }
 
@@ -198,7 +207,8 @@ fn room_that_was_made_is_used(rt: HostRuntime) -> Result<(), Fail> {
 
 #[test]
 fn bytes_are_copied_into_a_text(rt: HostRuntime) -> Result<(), Fail> {
-    let text = Text::copy_of(rt.alloc(), b"1 BEGIN")?;
+    let mut text = Text::copy_of(rt.alloc(), b"1 BEGI")?;
+    text.push(b'N')?;
     assert_eq!(rt; text.bytes(), b"1 BEGIN".as_slice());
     assert!(rt; Text::copy_of(rt.alloc(), b"")?.is_empty());
     Ok(())
