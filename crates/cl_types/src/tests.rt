@@ -31,21 +31,32 @@ fn keys_stand_where_the_table_says(rt: HostRuntime) -> Result<(), Fail> {
 
 #[test]
 fn names_and_values_have_their_limits(rt: HostRuntime) -> Result<(), Fail> {
-    let alloc = rt.alloc();
     let long = [b'k'; 129];
-    assert!(rt; TableName::read(b"abcdefgh").is_some());
-    for bytes in [b"".as_slice(), b"abcdefghi", b"T", b"t1", b"t "] {
-        assert_eq!(rt; TableName::read(bytes), None);
-    }
-    assert!(rt; Key::read(&long[..32]).is_some());
-    assert!(rt; Key::read(b"az09_.-").is_some());
-    for bytes in [b"".as_slice(), &long[..33], b"A", b"a ", b"a\r"] {
-        assert_eq!(rt; Key::read(bytes), None);
-    }
-    assert!(rt; Value::read(alloc, &long[..128])?.is_some());
-    assert!(rt; Value::read(alloc, b"!~A")?.is_some());
-    for bytes in [b"".as_slice(), &long, b"a b", b"\x7f", b"\n"] {
-        assert_eq!(rt; Value::read(alloc, bytes)?, None);
+    // The bytes, and whether they are a table's name, a key and a value.
+    let cases = [
+        (b"".as_slice(), (false, false, false)),
+        (b"abcdefgh", (true, true, true)),
+        (b"abcdefghi", (false, true, true)),
+        (b"T", (false, false, true)),
+        (b"t1", (false, true, true)),
+        (b"t ", (false, false, false)),
+        (b"az09_.-", (false, true, true)),
+        (b"a\r", (false, false, false)),
+        (b"!~A", (false, false, true)),
+        (b"\x7f", (false, false, false)),
+        (&long[..32], (false, true, true)),
+        (&long[..33], (false, false, true)),
+        (&long[..128], (false, false, true)),
+        (&long, (false, false, false)),
+    ];
+    for (bytes, wanted) in cases {
+        let is_value = Value::read(rt.alloc(), bytes)?.is_some();
+        let found = (
+            TableName::read(bytes).is_some(),
+            Key::read(bytes).is_some(),
+            is_value,
+        );
+        assert_eq!(rt; found, wanted, "{bytes:?}");
     }
     Ok(())
 }
@@ -90,17 +101,31 @@ fn numbers_are_canonical(rt: HostRuntime) -> Result<(), Fail> {
         (b"1a", None),
     ];
     for (bytes, number) in cases {
-        assert_eq!(rt; number_of_text(bytes), number);
-        assert_eq!(rt; number_of(&value(alloc, bytes)?), number);
+        let of_value = number_of(&value(alloc, bytes)?);
+        assert!(rt;
+            number_of_text(bytes) == number && of_value == number,
+            "{bytes:?}"
+        );
     }
     for number in [0, -7, i64::MAX, i64::MIN] {
-        assert_eq!(rt; number_of(&Value::of_number(alloc, number)?), Some(number));
-    }
-    assert_eq!(rt; natural_of(b"18446744073709551615"), Some(u64::MAX));
-    for bytes in [b"".as_slice(), b"18446744073709551616", b"00", b"-1"] {
-        assert_eq!(rt; natural_of(bytes), None);
+        assert!(rt; number_of(&Value::of_number(alloc, number)?) == Some(number));
     }
     Ok(())
+}
+
+#[test]
+fn unsigned_numbers_are_canonical(rt: HostRuntime) {
+    let cases = [
+        (b"18446744073709551615".as_slice(), Some(u64::MAX)),
+        (b"0", Some(0)),
+        (b"", None),
+        (b"18446744073709551616", None),
+        (b"00", None),
+        (b"-1", None),
+    ];
+    for (bytes, number) in cases {
+        assert!(rt; natural_of(bytes) == number, "{bytes:?}");
+    }
 }
 
 // What an operation on the value of these bytes replies, and the bytes that it leaves.
