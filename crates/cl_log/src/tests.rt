@@ -54,75 +54,89 @@ fn add(log: &mut Log, record: LogRec) -> Result<u64, NoMemory> {
     Ok(log.append(record))
 }
 
-// The eight records of the example.
+// The record of that number in the example, which has eight.
+fn example_record(alloc: Global, number: u64) -> Result<LogRec, NoMemory> {
+    let (table, key) = match number {
+        2 => place(b"b")?,
+        6 => place(b"c")?,
+        _ => place(b"a")?,
+    };
+    Ok(match number {
+        1 => LogRec::Set(FIRST, table, key, 0, None, Value::read(alloc, b"5")?),
+        2 => LogRec::Touch(SECOND, table, key, Mode::Shared),
+        3 => LogRec::Add(FIRST, table, key, 1, 2),
+        4 => LogRec::Decide(DECIDED),
+        5 => LogRec::Comp(FIRST, table, key, 3, 3, Form::Amount(2)),
+        6 => LogRec::Set(THIRD, table, key, 0, None, Value::read(alloc, b"x")?),
+        7 => LogRec::Prepared(THIRD),
+        _ => LogRec::End(SECOND, false),
+    })
+}
+
 fn example(alloc: Global) -> Result<Log, NoMemory> {
     let mut log = Log::new(alloc, 1);
-    add(&mut log, set(alloc, FIRST, b"a", b"5")?)?;
-    let (table, key) = place(b"b")?;
-    add(&mut log, LogRec::Touch(SECOND, table, key, Mode::Shared))?;
-    let (table, key) = place(b"a")?;
-    add(&mut log, LogRec::Add(FIRST, table, key, 1, 2))?;
-    add(&mut log, LogRec::Decide(DECIDED))?;
-    let (table, key) = place(b"a")?;
-    add(
-        &mut log,
-        LogRec::Comp(FIRST, table, key, 3, 3, Form::Amount(2)),
-    )?;
-    add(&mut log, set(alloc, THIRD, b"c", b"x")?)?;
-    add(&mut log, LogRec::Prepared(THIRD))?;
-    add(&mut log, LogRec::End(SECOND, false))?;
+    for number in 1..=8 {
+        add(&mut log, example_record(alloc, number)?)?;
+    }
     Ok(log)
 }
 
 #[test]
 fn stages_and_chains(rt: HostRuntime) -> Result<(), Fail> {
     let log = example(rt.alloc())?;
-    assert_eq!(rt; log.last(), 8);
     records_are_numbered(&log);
-    assert_eq!(rt; log.stage(FIRST), Stage::Running);
-    assert_eq!(rt; log.stage(SECOND), Stage::Ended);
-    assert_eq!(rt; log.stage(THIRD), Stage::Prepared);
-    assert_eq!(rt; log.stage(DECIDED), Stage::Unknown);
-    assert_eq!(rt; log.chain(FIRST)?.as_slice(), [1, 3, 5].as_slice());
-    assert_eq!(rt; log.chain(SECOND)?.as_slice(), [2, 8].as_slice());
-    assert_eq!(rt; log.chain(DECIDED)?.as_slice(), [4].as_slice());
+    let rows = [
+        (FIRST, Stage::Running, [1, 3, 5].as_slice()),
+        (SECOND, Stage::Ended, &[2, 8]),
+        (THIRD, Stage::Prepared, &[6, 7]),
+        (DECIDED, Stage::Unknown, &[4]),
+    ];
+    for (txn, stage, chain) in rows {
+        assert!(rt; log.stage(txn) == stage);
+        assert!(rt; log.chain(txn)?.as_slice() == chain);
+    }
     Ok(())
 }
 
 #[test]
 fn the_open_ones_and_their_rests(rt: HostRuntime) -> Result<(), Fail> {
     let log = example(rt.alloc())?;
-    assert_eq!(rt; log.unended()?.as_slice(), [FIRST, THIRD].as_slice());
-    assert_eq!(rt; log.low(), 1);
-    assert_eq!(rt; log.rest_to_undo(FIRST), Some(1));
-    assert_eq!(rt; log.rest_to_undo(SECOND), None);
-    assert_eq!(rt; log.rest_to_undo(THIRD), Some(6));
-    assert!(rt; is_record(log.at(4), &LogRec::Decide(DECIDED)));
-    assert!(rt; log.at(0).is_none());
-    assert!(rt; log.at(9).is_none());
+    assert!(rt; log.unended()?.as_slice() == [FIRST, THIRD].as_slice());
+    assert!(rt; log.low() == 1 && log.last() == 8);
+    for (txn, rest) in [(FIRST, Some(1)), (SECOND, None), (THIRD, Some(6))] {
+        assert!(rt; log.rest_to_undo(txn) == rest);
+    }
     Ok(())
+}
+
+#[test]
+fn records_stand_under_their_numbers(rt: HostRuntime) -> Result<(), Fail> {
+    let log = example(rt.alloc())?;
+    for number in 1..=8 {
+        let wanted = example_record(rt.alloc(), number)?;
+        assert!(rt; is_record(log.at(number), &wanted), "record {number}");
+    }
+    assert!(rt; log.at(0).is_none() && log.at(9).is_none());
+    Ok(())
+}
+
+// Whether the last record and the first that is still needed have these numbers.
+fn ends_at(log: &Log, last: u64, low: u64) -> bool {
+    log.last() == last && log.low() == low
 }
 
 #[test]
 fn a_rollback_ends_where_nothing_is_left(rt: HostRuntime) -> Result<(), Fail> {
     let mut log = Log::new(rt.alloc(), 5);
-    assert_eq!(rt; log.last(), 4);
-    assert_eq!(rt; log.low(), 5);
+    assert!(rt; ends_at(&log, 4, 5));
     let write = set(rt.alloc(), FIRST, b"a", b"5")?;
-    let undo = match write {
-        LogRec::Set(..) => undo_of(rt.alloc(), &write, 5, 5)?,
-        _ => LogRec::Prepared(FIRST),
-    };
-    assert_eq!(rt; add(&mut log, write)?, 5);
-    let (table, key) = place(b"a")?;
-    let wanted = LogRec::Comp(FIRST, table, key, 5, 5, Form::Image(None));
-    assert!(rt; undo == wanted);
-    assert!(rt; wanted.copy(rt.alloc())? == wanted);
-    assert_eq!(rt; add(&mut log, undo)?, 6);
-    assert_eq!(rt; log.rest_to_undo(FIRST), None);
-    assert_eq!(rt; add(&mut log, LogRec::End(FIRST, false))?, 7);
-    assert_eq!(rt; log.low(), 8);
-    assert!(rt; log.unended()?.is_empty());
+    let undo = undone(rt.alloc(), &write, 5)?;
+    for record in [write, undo] {
+        add(&mut log, record)?;
+    }
+    assert!(rt; ends_at(&log, 6, 5) && log.rest_to_undo(FIRST).is_none());
+    add(&mut log, LogRec::End(FIRST, false))?;
+    assert!(rt; ends_at(&log, 7, 8) && log.unended()?.is_empty());
     Ok(())
 }
 
@@ -135,26 +149,43 @@ fn undone(alloc: Global, entry: &LogRec, number: u64) -> Result<LogRec, NoMemory
     }
 }
 
+// Whether a write is copied as it is, and its undoing under that number is the form, and is copied too.
+fn is_undone_by(alloc: Global, write: LogRec, number: u64, form: Form) -> Result<bool, NoMemory> {
+    let (table, key) = place(b"a")?;
+    let wanted = LogRec::Comp(FIRST, table, key, number, number, form);
+    Ok(
+        write.copy(alloc)? == write
+            && undone(alloc, &write, number)? == wanted
+            && wanted.copy(alloc)? == wanted,
+    )
+}
+
 #[test]
 fn values_are_copied_and_come_back(rt: HostRuntime) -> Result<(), Fail> {
-    let alloc = rt.alloc();
     let (table, key) = place(b"a")?;
-    let (old, new) = (Value::read(alloc, b"5")?, Value::read(alloc, b"6")?);
+    let (old, new) = (
+        Value::read(rt.alloc(), b"5")?,
+        Value::read(rt.alloc(), b"6")?,
+    );
     let set = LogRec::Set(FIRST, table, key, 3, old, new);
-    assert!(rt; set.copy(alloc)? == set);
-    let (table, key) = place(b"a")?;
-    let image = Form::Image(Value::read(alloc, b"5")?);
-    let wanted = LogRec::Comp(FIRST, table, key, 4, 4, image);
-    assert!(rt; undone(alloc, &set, 4)? == wanted);
-    assert!(rt; wanted.copy(alloc)? == wanted);
+    let image = Form::Image(Value::read(rt.alloc(), b"5")?);
+    assert!(rt; is_undone_by(rt.alloc(), set, 4, image)?);
+    Ok(())
+}
 
+#[test]
+fn amounts_are_copied_and_taken_back(rt: HostRuntime) -> Result<(), Fail> {
     let (table, key) = place(b"a")?;
     let add = LogRec::Add(FIRST, table, key, 4, 2);
-    assert!(rt; add.copy(alloc)? == add);
-    let (table, key) = place(b"a")?;
-    let wanted = LogRec::Comp(FIRST, table, key, 5, 5, Form::Amount(2));
-    assert!(rt; undone(alloc, &add, 5)? == wanted);
-    assert!(rt; Form::Amount(2).copy(alloc)? == Form::Amount(2));
+    assert!(rt; is_undone_by(rt.alloc(), add, 5, Form::Amount(2))?);
+    assert!(rt; Form::Amount(2).copy(rt.alloc())? == Form::Amount(2));
+    Ok(())
+}
+
+#[test]
+fn a_first_write_is_undone_to_nothing(rt: HostRuntime) -> Result<(), Fail> {
+    let write = set(rt.alloc(), FIRST, b"a", b"5")?;
+    assert!(rt; is_undone_by(rt.alloc(), write, 5, Form::Image(None))?);
     Ok(())
 }
 
@@ -162,7 +193,6 @@ fn values_are_copied_and_come_back(rt: HostRuntime) -> Result<(), Fail> {
 fn a_want_of_memory_leaves_the_log(rt: HostRuntime) -> Result<(), Fail> {
     let mut log = example(rt.alloc())?;
     assert!(rt; log.reserve(usize::MAX).is_err());
-    assert_eq!(rt; log.last(), 8);
-    assert!(rt; is_record(log.at(4), &LogRec::Decide(DECIDED)));
+    assert!(rt; log.last() == 8 && is_record(log.at(4), &LogRec::Decide(DECIDED)));
     Ok(())
 }
