@@ -1,5 +1,5 @@
 //! Records taken one by one, with what stands in the store and what is locked after each.
-ghost use Rattle.std.specs.Prelude.{◌≡◌, ◌≢◌, ◌<◌, ◌≤◌, ◌⊎◌, true, false, None};
+ghost use Rattle.std.specs.Prelude.{◌≡◌, ◌≢◌, ◌<◌, ◌≤◌, ◌⊎◌, true, false, None, IfOk};
 ghost use Rattle.cl_types.specs.declared.operations.TxnId.{TxnId};
 ghost use Rattle.cl_types.specs.Places.{Place};
 ghost use Rattle.cl_log.specs.Kind.{txn_of, is_end};
@@ -118,85 +118,90 @@ fn stands(
         }
 }
 
+// A replica whose log begins with record 8, and whose store has that value with that state number at `t b`.
+fn replica_with(rt: &impl Abort, alloc: Global, bytes: &[u8], number: u64) -> Result<Replica, Fail>
+    ensures running { IfOk result (λ replica. has_ended (entries replica.log) TXN ≡ false) }
+    ensures alone { IfOk result (λ replica.
+        (other : TxnId) (place : Place) → held replica.locks other place ≡ None) }
+{
+    let mut replica = new_replica(alloc, 8);
+    let (t, b) = place(b"b")?;
+    let value = value(alloc, bytes)?;
+    replica.store.reserve(1)?;
+    assert!(rt; replica.store.get(&t, &b).0 < number);
+    replica.store.write(&t, &b, value, number);
+    Ok(replica)
+}
+
 #[test]
 fn an_addition_counts_once(rt: HostRuntime) -> Result<(), Fail> {
-    let alloc = rt.alloc();
+    // The value and state number before, whether the addition of 2 over state 1 counts, and the same after it.
+    let rows = [
+        ((b"9".as_slice(), 8), Redone::Skipped, (b"9".as_slice(), 8)),
+        ((b"5", 1), Redone::Applied, (b"7", 8)),
+    ];
     let (t, b) = place(b"b")?;
-    let mut ahead = new_replica(alloc, 8);
-    ahead.store.reserve(1)?;
-    assert_eq!(rt; ahead.store.get(&t, &b).0, 0);
-    ahead.store.write(&t, &b, value(alloc, b"9")?, 8);
-    let add = LogRec::Add(TXN, t.copy(), b.copy(), 1, 2);
-    assert_eq!(rt; take_next(&rt, alloc, &mut ahead, add)?, Redone::Skipped);
-    assert!(rt; stands(&ahead.store, (&t, &b), 8, Some(b"9")));
-    assert_eq!(rt; ahead.log.last(), 8);
-    assert_eq!(rt; ahead.locks.holds(TXN, &t, &b), Some(Mode::Exclusive));
-
-    let mut behind = new_replica(alloc, 8);
-    behind.store.reserve(1)?;
-    assert_eq!(rt; behind.store.get(&t, &b).0, 0);
-    behind.store.write(&t, &b, value(alloc, b"5")?, 1);
-    let add = LogRec::Add(TXN, t.copy(), b.copy(), 1, 2);
-    assert_eq!(rt; take_next(&rt, alloc, &mut behind, add)?, Redone::Applied);
-    assert!(rt; stands(&behind.store, (&t, &b), 8, Some(b"7")));
+    for ((old, before), wanted, (new, after)) in rows {
+        let mut replica = replica_with(&rt, rt.alloc(), old, before)?;
+        let add = LogRec::Add(TXN, t.copy(), b.copy(), 1, 2);
+        let redone = take_next(&rt, rt.alloc(), &mut replica, add)?;
+        assert!(rt; redone == wanted && replica.log.last() == 8);
+        assert!(rt; stands(&replica.store, (&t, &b), after, Some(new)));
+        assert!(rt; replica.locks.holds(TXN, &t, &b) == Some(Mode::Exclusive));
+    }
     Ok(())
+}
+
+// The record of that number in a log of all kinds, whose last record ends the transaction.
+fn record_of_all(alloc: Global, number: u64) -> Result<LogRec, Fail>
+    ensures own { IfOk result (λ entry. txn_of entry ≡ TXN) }
+    ensures open { IfOk result (λ entry. is_end entry ≡ false) }
+{
+    let (table, key) = place(if number == 1 { b"a" } else { b"b" })?;
+    Ok(match number {
+        1 => LogRec::Touch(TXN, table, key, Mode::Shared),
+        2 => LogRec::Set(TXN, table, key, 0, None, value(alloc, b"5")?),
+        3 => LogRec::Add(TXN, table, key, 2, 2),
+        4 => LogRec::Comp(TXN, table, key, 3, 3, Form::Amount(2)),
+        5 => LogRec::Comp(TXN, table, key, 4, 2, Form::Image(None)),
+        6 => LogRec::Prepared(TXN),
+        _ => LogRec::Decide(TXN),
+    })
+}
+
+// Whether the transaction has these locks at `t a` and `t b`.
+fn is_locked(locks: &Locks, wanted: (Option<Mode>, Option<Mode>)) -> Result<bool, Fail> {
+    let (t, a) = place(b"a")?;
+    let (_, b) = place(b"b")?;
+    Ok(locks.holds(TXN, &t, &a) == wanted.0 && locks.holds(TXN, &t, &b) == wanted.1)
 }
 
 #[test]
 fn one_log_of_all_kinds(rt: HostRuntime) -> Result<(), Fail> {
-    let alloc = rt.alloc();
-    let (t, a) = place(b"a")?;
-    let (_, b) = place(b"b")?;
-    let mut replica = new_replica(alloc, 1);
-
-    let touch = LogRec::Touch(TXN, t.copy(), a.copy(), Mode::Shared);
-    assert_eq!(rt; take_next(&rt, alloc, &mut replica, touch)?, Redone::Marked);
-    assert!(rt; stands(&replica.store, (&t, &a), 0, None));
-    assert_eq!(rt; replica.locks.holds(TXN, &t, &a), Some(Mode::Shared));
-
-    let set = LogRec::Set(TXN, t.copy(), b.copy(), 0, None, value(alloc, b"5")?);
-    assert_eq!(rt; take_next(&rt, alloc, &mut replica, set)?, Redone::Applied);
-    assert!(rt; stands(&replica.store, (&t, &b), 2, Some(b"5")));
-    assert_eq!(rt; replica.locks.holds(TXN, &t, &b), Some(Mode::Exclusive));
-
-    let add = LogRec::Add(TXN, t.copy(), b.copy(), 2, 2);
-    assert_eq!(rt; take_next(&rt, alloc, &mut replica, add)?, Redone::Applied);
-    assert!(rt; stands(&replica.store, (&t, &b), 3, Some(b"7")));
-
-    let subtract = LogRec::Comp(TXN, t.copy(), b.copy(), 3, 3, Form::Amount(2));
-    assert_eq!(rt;
-        take_next(&rt, alloc, &mut replica, subtract)?,
-        Redone::Applied
-    );
-    assert!(rt; stands(&replica.store, (&t, &b), 4, Some(b"5")));
-
-    let restore = LogRec::Comp(TXN, t.copy(), b.copy(), 4, 2, Form::Image(None));
-    assert_eq!(rt;
-        take_next(&rt, alloc, &mut replica, restore)?,
-        Redone::Applied
-    );
+    let exclusive = Some(Mode::Exclusive);
+    // The record, what is made of it, the state and value at `t b` after it, and the lock there.
+    let rows = [
+        (1, Redone::Marked, (0, None), None),
+        (2, Redone::Applied, (2, Some(b"5".as_slice())), exclusive),
+        (3, Redone::Applied, (3, Some(b"7")), exclusive),
+        (4, Redone::Applied, (4, Some(b"5")), exclusive),
+        (5, Redone::Applied, (5, None), exclusive),
+        (6, Redone::Marked, (5, None), exclusive),
+        (7, Redone::Marked, (5, None), exclusive),
+    ];
+    let (t, b) = place(b"b")?;
+    let mut replica = new_replica(rt.alloc(), 1);
+    for (number, wanted, (state, bytes), mode) in rows {
+        let record = record_of_all(rt.alloc(), number)?;
+        let redone = take_next(&rt, rt.alloc(), &mut replica, record)?;
+        assert!(rt; redone == wanted && replica.log.last() == number);
+        assert!(rt; stands(&replica.store, (&t, &b), state, bytes));
+        assert!(rt; is_locked(&replica.locks, (Some(Mode::Shared), mode))?);
+    }
+    let redone = take_next(&rt, rt.alloc(), &mut replica, LogRec::End(TXN, true))?;
+    assert!(rt; redone == Redone::Marked && replica.log.last() == 8);
     assert!(rt; stands(&replica.store, (&t, &b), 5, None));
-    assert_eq!(rt; replica.locks.holds(TXN, &t, &a), Some(Mode::Shared));
-    assert_eq!(rt; replica.locks.holds(TXN, &t, &b), Some(Mode::Exclusive));
-
-    let prepared = LogRec::Prepared(TXN);
-    assert_eq!(rt;
-        take_next(&rt, alloc, &mut replica, prepared)?,
-        Redone::Marked
-    );
-    let decide = LogRec::Decide(TXN);
-    assert_eq!(rt;
-        take_next(&rt, alloc, &mut replica, decide)?,
-        Redone::Marked
-    );
-    assert_eq!(rt; replica.locks.holds(TXN, &t, &b), Some(Mode::Exclusive));
-
-    let end = LogRec::End(TXN, true);
-    assert_eq!(rt; take_next(&rt, alloc, &mut replica, end)?, Redone::Marked);
-    assert_eq!(rt; replica.locks.holds(TXN, &t, &a), None);
-    assert_eq!(rt; replica.locks.holds(TXN, &t, &b), None);
-    assert!(rt; stands(&replica.store, (&t, &b), 5, None));
-    assert_eq!(rt; replica.log.last(), 8);
+    assert!(rt; is_locked(&replica.locks, (None, None))?);
     Ok(())
 }
 
@@ -227,44 +232,38 @@ fn room_is_made_in_both(rt: HostRuntime) -> Result<(), Fail> {
 
 #[test]
 fn an_amount_that_does_not_fit_leaves_the_value(rt: HostRuntime) -> Result<(), Fail> {
-    let alloc = rt.alloc();
-    let (t, a) = place(b"a")?;
-    let mut replica = new_replica(alloc, 1);
-    let set = LogRec::Set(TXN, t.copy(), a.copy(), 0, None, value(alloc, b"x")?);
-    take_next(&rt, alloc, &mut replica, set)?;
-    let add = LogRec::Add(TXN, t.copy(), a.copy(), 1, 2);
-    assert_eq!(rt; take_next(&rt, alloc, &mut replica, add)?, Redone::Applied);
-    assert!(rt; stands(&replica.store, (&t, &a), 2, Some(b"x")));
-    let set = LogRec::Set(TXN, t.copy(), a.copy(), 2, None, value(alloc, b"1")?);
-    take_next(&rt, alloc, &mut replica, set)?;
-    let subtract = LogRec::Comp(TXN, t.copy(), a.copy(), 3, 2, Form::Amount(i64::MIN));
-    assert_eq!(rt;
-        take_next(&rt, alloc, &mut replica, subtract)?,
-        Redone::Applied
-    );
-    assert!(rt; stands(&replica.store, (&t, &a), 4, Some(b"1")));
+    // The value before, and the amount added or taken back.
+    let rows = [(b"x".as_slice(), 2, false), (b"1", i64::MIN, true)];
+    let (t, b) = place(b"b")?;
+    for (bytes, amount, is_undo) in rows {
+        let mut replica = replica_with(&rt, rt.alloc(), bytes, 1)?;
+        let entry = if is_undo {
+            LogRec::Comp(TXN, t.copy(), b.copy(), 1, 1, Form::Amount(amount))
+        } else {
+            LogRec::Add(TXN, t.copy(), b.copy(), 1, amount)
+        };
+        let redone = take_next(&rt, rt.alloc(), &mut replica, entry)?;
+        assert!(rt; redone == Redone::Applied);
+        assert!(rt; stands(&replica.store, (&t, &b), 8, Some(bytes)));
+    }
     Ok(())
 }
 
 // Where an allocation fails, the replica is as it was, and takes the record then.
 #[test]
 fn a_want_of_memory_leaves_the_replica(rt: HostRuntime) -> Result<(), Fail> {
-    let alloc = rt.alloc();
-    let (t, a) = place(b"a")?;
-    let mut replica = new_replica(alloc, 1);
-    let set = LogRec::Set(TXN, t.copy(), a.copy(), 0, None, value(alloc, b"5")?);
-    let again = LogRec::Set(TXN, t.copy(), a.copy(), 0, None, value(alloc, b"5")?);
-    if take_next(&rt, alloc, &mut replica, set).is_err() {
-        assert_eq!(rt; replica.log.last(), 0);
-        assert!(rt; stands(&replica.store, (&t, &a), 0, None));
-        assert_eq!(rt; replica.locks.holds(TXN, &t, &a), None);
-        assert_eq!(rt;
-            take_next(&rt, alloc, &mut replica, again)?,
-            Redone::Applied
-        );
+    let (t, b) = place(b"b")?;
+    let mut replica = new_replica(rt.alloc(), 1);
+    take_next(&rt, rt.alloc(), &mut replica, record_of_all(rt.alloc(), 1)?)?;
+    let (set, again) = (record_of_all(rt.alloc(), 2)?, record_of_all(rt.alloc(), 2)?);
+    if take_next(&rt, rt.alloc(), &mut replica, set).is_err() {
+        assert!(rt; replica.log.last() == 1);
+        assert!(rt; stands(&replica.store, (&t, &b), 0, None));
+        assert!(rt; is_locked(&replica.locks, (Some(Mode::Shared), None))?);
+        take_next(&rt, rt.alloc(), &mut replica, again)?;
     }
-    assert_eq!(rt; replica.log.last(), 1);
-    assert!(rt; stands(&replica.store, (&t, &a), 1, Some(b"5")));
-    assert_eq!(rt; replica.locks.holds(TXN, &t, &a), Some(Mode::Exclusive));
+    assert!(rt; replica.log.last() == 2);
+    assert!(rt; stands(&replica.store, (&t, &b), 2, Some(b"5")));
+    assert!(rt; is_locked(&replica.locks, (Some(Mode::Shared), Some(Mode::Exclusive)))?);
     Ok(())
 }
