@@ -61,11 +61,11 @@ fn lines_begun(newlines: usize, piece: &[u8]) -> usize
     }
 }
 
-// A buffer for one piece.
-fn new_buffer(alloc: Global) -> Result<Vec<u8>, AllocError>
-    ensures { IfOk result (λ buffer. vec_len buffer ≡ PIECE) }
+// A buffer for so many bytes.
+fn new_buffer(alloc: Global, count: usize) -> Result<Vec<u8>, AllocError>
+    ensures { IfOk result (λ buffer. vec_len buffer ≡ count) }
 {
-    vec![in alloc; 0u8; PIECE]
+    vec![in alloc; 0u8; count]
 }
 
 // Adds a piece to the bytes so far, unless there is too much with it.
@@ -100,7 +100,7 @@ pub(crate) fn read_input<S: Source>(alloc: Global, source: &mut S) -> Result<Vec
     ensures fault { IfErr result (λ fault. fault ≡ InputFault.Read → Rose (S.faults source.old) (S.faults source.new)) }
     ensures counted { S.faults source.old ≤ S.faults source.new }
 {
-    let Ok(mut buffer) = new_buffer(alloc) else {
+    let Ok(mut buffer) = new_buffer(alloc, PIECE) else {
         return Err(InputFault::NoMemory);
     };
     let mut bytes = Vec::new(alloc);
