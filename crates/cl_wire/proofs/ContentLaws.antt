@@ -3,16 +3,17 @@ use Rattle.std.proofs.Common.{◌≡◌, ℕ, List, refl, arith}
 use Rattle.cl_wire.specs.declared.kind.Kind.{Kind}
 use Rattle.cl_wire.specs.declared.kind.Kind.TheVariants as kinds
 use Rattle.cl_wire.specs.Message.{Content, kind_of, Bare, Command, Outcome, Ask, Answer, Prepare, Vote, Finish, Inquire, Decision, Log, LogAck, Repair, Records, Names, CopyAck}
-use Rattle.cl_wire.specs.Spelling.{byte, number_32, number_64, flag_byte, txn_bytes, op_bytes, command_bytes, outcome_bytes, answer_bytes, entry_bytes, item_bytes, list_bytes, content_bytes}
+use Rattle.cl_fields.specs.Spelling.{byte, number_32, number_64, flag_byte, txn_bytes, op_bytes, command_bytes, outcome_bytes, answer_bytes, entry_bytes, item_bytes, list_bytes}
+use Rattle.cl_wire.specs.Spelling.{content_bytes}
 use Rattle.cl_wire.specs.Range.{IsContent}
 use Rattle.cl_wire.specs.PacketReading.{read_content}
-use Rattle.cl_wire.proofs.Readers.{Takes, Again, takes_bind, takes_done, takes_last, again_bind, again_done, again_as, again_last}
-use Rattle.cl_wire.proofs.Nested.{nest_3, nest_4, nest_5}
-use Rattle.cl_wire.proofs.NumberLaws.{takes_up_to, again_between, takes_64, again_64, takes_number, again_number, takes_index, again_index, takes_place, again_place, takes_flag, again_flag, takes_txn, again_txn}
-use Rattle.cl_wire.proofs.NameLaws.{takes_op, again_op, takes_command, again_command}
-use Rattle.cl_wire.proofs.AnswerLaws.{takes_outcome, again_outcome, takes_answer, again_answer}
-use Rattle.cl_wire.proofs.EntryLaws.{takes_entry, again_entry}
-use Rattle.cl_wire.proofs.ListLaws.{takes_items, again_items, takes_txns, again_txns}
+use Rattle.cl_fields.proofs.Readers.{Takes, Again, takes_bind, takes_done, takes_last, again_bind, again_done, again_as, again_last}
+use Rattle.cl_fields.proofs.Nested.{nest_3, nest_4, nest_5}
+use Rattle.cl_fields.proofs.NumberLaws.{takes_up_to, again_between, takes_64, again_64, takes_number, again_number, takes_index, again_index, takes_place, again_place, takes_flag, again_flag, takes_txn, again_txn}
+use Rattle.cl_fields.proofs.NameLaws.{takes_op, again_op, takes_command, again_command}
+use Rattle.cl_fields.proofs.AnswerLaws.{takes_outcome, again_outcome, takes_answer, again_answer}
+use Rattle.cl_fields.proofs.EntryLaws.{takes_entry, again_entry}
+use Rattle.cl_fields.proofs.ListLaws.{takes_items, again_items, takes_txns, again_txns}
 
 -- the text is the fields of a body of this kind
 pub record IsContentOf (kind : Kind) (content : Content) (taken : List ℕ) : Type 0 where

@@ -5,20 +5,20 @@ use Rattle.std.specs.Int.{w32, w64}
 use Rattle.std.proofs.lemmas.Bool.{cases_Bool}
 use Rattle.std.proofs.lemmas.Option.{slice_get_past, slice_get_cases}
 use Rattle.cl_types.specs.Names.{is_between}
-use Rattle.cl_wire.proofs.Lengths.{between_high, between_low}
+use Rattle.cl_fields.proofs.Lengths.{between_high, between_low}
 use Rattle.std.proofs.lemmas.List.{append-nil}
 use Rattle.cl_wire.specs.declared.decoding.Header.{Header}
 use Rattle.cl_wire.specs.declared.kind.Kind.{Kind}
-use Rattle.cl_wire.specs.declared.undecoded.WireFault.{WireFault}
-use Rattle.cl_wire.specs.declared.undecoded.WireFault.TheVariants as faults
+use Rattle.cl_fields.specs.declared.undecoded.WireFault.{WireFault}
+use Rattle.cl_fields.specs.declared.undecoded.WireFault.TheVariants as faults
 use Rattle.cl_wire.specs.Message.{Message}
 use Rattle.cl_wire.specs.Spelling.{version, spelling}
-use Rattle.cl_wire.specs.Reading.{Read, Reader, ◌>>=◌, done, read_actor, read_number, read_byte, read_between}
+use Rattle.cl_fields.specs.Reading.{Read, Reader, ◌>>=◌, done, read_actor, read_number, read_byte, read_between}
 use Rattle.cl_wire.specs.PacketReading.{all_kinds, read_kind, read_seq, read_header, read_content, read_message, alone, read_packet}
 use Rattle.cl_wire.specs.Laws.{LongerIsRest, RestIsLonger, NamesNoKind, KindIsSecondByte, FaultStays, BeginningIsShort, ShortEnds, VersionIsFirstByte}
-use Rattle.cl_wire.proofs.Readers.{same_found}
-use Rattle.cl_wire.proofs.Settling.{Settled, Settles, settles_bind, settles_last}
-use Rattle.cl_wire.proofs.SettlingFields.{settles_between, settles_number}
+use Rattle.cl_fields.proofs.Readers.{same_found}
+use Rattle.cl_fields.proofs.Settling.{Settled, Settles, settles_bind, settles_last}
+use Rattle.cl_fields.proofs.SettlingFields.{settles_between, settles_number}
 use Rattle.cl_wire.proofs.SettlingPackets.{settles_seq, settles_content, settles_message}
 use Rattle.cl_wire.proofs.PacketLaws.{takes_message, again_message}
 

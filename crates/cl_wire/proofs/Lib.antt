@@ -1,17 +1,6 @@
-pub mod AnswerLaws
 pub mod ContentLaws
-pub mod EntryLaws
 pub mod FaultLaws
-pub mod Lengths
-pub mod ListLaws
 pub mod LongestSpelling
-pub mod Members
-pub mod NameLaws
-pub mod Nested
-pub mod NumberLaws
 pub mod PacketLaws
-pub mod Readers
-pub mod Settling
-pub mod SettlingFields
 pub mod SettlingPackets
 pub mod SpellingLengths

@@ -3,8 +3,10 @@ use Rattle.std.proofs.Common.{◌≡◌, ℕ, zero, suc, List, [], ◌∷◌, le
 use Rattle.std.proofs.lemmas.List.Elements.{All-nil, All-cons}
 use Rattle.cl_store.specs.declared.item.Item.{Item}
 use Rattle.cl_wire.specs.Message.{Message, Records}
-use Rattle.cl_wire.specs.Spelling.{number_32, number_64, name_bytes, value_bytes, image_bytes, item_bytes, list_bytes, header_bytes, content_bytes, spelling}
-use Rattle.cl_wire.specs.Range.{IsIndex, IsItem, AreFew, IsContent, IsInRange}
+use Rattle.cl_fields.specs.Spelling.{number_32, number_64, name_bytes, value_bytes, image_bytes, item_bytes, list_bytes}
+use Rattle.cl_wire.specs.Spelling.{header_bytes, content_bytes, spelling}
+use Rattle.cl_fields.specs.Range.{IsIndex, IsItem, AreFew}
+use Rattle.cl_wire.specs.Range.{IsContent, IsInRange}
 use Rattle.cl_wire.specs.Laws.{IsAsLong}
 
 abbrev longest_item : Item

@@ -6,17 +6,19 @@ use Rattle.std.proofs.lemmas.List.{append-nil}
 use Rattle.cl_wire.specs.declared.decoding.Header.{Header}
 use Rattle.cl_wire.specs.declared.kind.Kind.{Kind}
 use Rattle.cl_wire.specs.declared.kind.Kind.TheVariants as kinds
-use Rattle.cl_wire.specs.declared.undecoded.Undecoded.{Undecoded}
+use Rattle.cl_fields.specs.declared.undecoded.Undecoded.{Undecoded}
 use Rattle.cl_wire.specs.declared.packet.Packet.{Packet}
 use Rattle.cl_wire.specs.Message.{Message, kind_of, message_of}
-use Rattle.cl_wire.specs.Spelling.{byte, number_32, number_64, kind_byte, version, header_bytes, content_bytes, spelling}
-use Rattle.cl_wire.specs.Range.{IsActor, IsSeq, IsInRange}
-use Rattle.cl_wire.specs.Reading.{Read}
+use Rattle.cl_fields.specs.Spelling.{byte, number_32, number_64}
+use Rattle.cl_wire.specs.Spelling.{kind_byte, version, header_bytes, content_bytes, spelling}
+use Rattle.cl_fields.specs.Range.{IsActor}
+use Rattle.cl_wire.specs.Range.{IsSeq, IsInRange}
+use Rattle.cl_fields.specs.Reading.{Read}
 use Rattle.cl_wire.specs.PacketReading.{all_kinds, checked_kind, is_seq, read_kind, read_seq, read_version, read_header, read_message, alone, read_packet, Decodes}
 use Rattle.cl_wire.specs.Laws.{AreBytes, Spells, SpelledIsRead, ReadIsSpelled, SpellsAtMostOne, NoneBeginsAnother}
-use Rattle.cl_wire.proofs.Readers.{same_found, Takes, IsSpelled, Again, takes_bind, takes_done, takes_passed, takes_last, takes_as, again_bind, again_done, again_passed, again_as, again_last}
-use Rattle.cl_wire.proofs.Nested.{nest_7}
-use Rattle.cl_wire.proofs.NumberLaws.{takes_byte, again_byte, takes_between, takes_up_to, again_between, takes_32, again_32, takes_64, again_64}
+use Rattle.cl_fields.proofs.Readers.{same_found, Takes, IsSpelled, Again, takes_bind, takes_done, takes_passed, takes_last, takes_as, again_bind, again_done, again_passed, again_as, again_last}
+use Rattle.cl_fields.proofs.Nested.{nest_7}
+use Rattle.cl_fields.proofs.NumberLaws.{takes_byte, again_byte, takes_between, takes_up_to, again_between, takes_32, again_32, takes_64, again_64}
 use Rattle.cl_wire.proofs.ContentLaws.{takes_content, again_content}
 
 -- ---- kinds

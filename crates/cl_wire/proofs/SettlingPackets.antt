@@ -4,8 +4,8 @@ use Rattle.cl_wire.specs.declared.kind.Kind.{Kind}
 use Rattle.cl_wire.specs.declared.kind.Kind.TheVariants as kinds
 use Rattle.cl_wire.specs.Message.{Ask}
 use Rattle.cl_wire.specs.PacketReading.{checked_kind, read_kind, read_content, read_seq, read_header, read_message}
-use Rattle.cl_wire.proofs.Settling.{Settles, settles_bind, settles_done, settles_last, settles_passed, settles_byte}
-use Rattle.cl_wire.proofs.SettlingFields.{settles_between, settles_number, settles_positive, settles_flag, settles_place, settles_txn, settles_op, settles_command, settles_outcome, settles_answer, settles_entry, settles_item, settles_list}
+use Rattle.cl_fields.proofs.Settling.{Settles, settles_bind, settles_done, settles_last, settles_passed, settles_byte}
+use Rattle.cl_fields.proofs.SettlingFields.{settles_between, settles_number, settles_positive, settles_flag, settles_place, settles_txn, settles_op, settles_command, settles_outcome, settles_answer, settles_entry, settles_item, settles_list}
 
 settles_checked_kind : (kind : Option Kind) → Settles (Unit {0}) (checked_kind kind)
 settles_checked_kind (Some kind) = record { run = λ bytes more. refl; enough = λ bytes. record { missing = 0; ends = λ short. cc } }

@@ -1,7 +1,7 @@
 -- What holds of every spelling, and what the faults mean.
 use Rattle.std.specs.Prelude.{◌≡◌, ◌≢◌, ℕ, ◌^◌, ◌<◌, ◌≤◌, ◌↔◌, List, [], ◌∷◌, ◌++◌, length, slice_index, replicate, Ok, Err}
-use Rattle.cl_wire.specs.declared.undecoded.WireFault.{WireFault}
-use Rattle.cl_wire.specs.declared.undecoded.WireFault.TheVariants as faults
+use Rattle.cl_fields.specs.declared.undecoded.WireFault.{WireFault}
+use Rattle.cl_fields.specs.declared.undecoded.WireFault.TheVariants as faults
 use Rattle.cl_wire.specs.Message.{Message}
 use Rattle.cl_wire.specs.Spelling.{version, spelling}
 use Rattle.cl_wire.specs.Range.{IsInRange}

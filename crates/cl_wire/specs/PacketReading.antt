@@ -4,14 +4,14 @@ use Rattle.std.specs.Int.{w32, w64}
 use Rattle.cl_wire.specs.declared.decoding.Header.{Header}
 use Rattle.cl_wire.specs.declared.kind.Kind.{Kind}
 use Rattle.cl_wire.specs.declared.kind.Kind.TheVariants as kinds
-use Rattle.cl_wire.specs.declared.undecoded.WireFault.{WireFault}
-use Rattle.cl_wire.specs.declared.undecoded.WireFault.TheVariants as faults
-use Rattle.cl_wire.specs.declared.undecoded.Undecoded.{Undecoded}
-use Rattle.cl_wire.specs.declared.undecoded.Undecoded.TheVariants as undecoded
+use Rattle.cl_fields.specs.declared.undecoded.WireFault.{WireFault}
+use Rattle.cl_fields.specs.declared.undecoded.WireFault.TheVariants as faults
+use Rattle.cl_fields.specs.declared.undecoded.Undecoded.{Undecoded}
+use Rattle.cl_fields.specs.declared.undecoded.Undecoded.TheVariants as undecoded
 use Rattle.cl_wire.specs.declared.packet.Packet.{Packet}
 use Rattle.cl_wire.specs.Spelling.{version}
 use Rattle.cl_wire.specs.Message.{Content, Message, message_of, Bare, Command, Outcome, Ask, Answer, Prepare, Vote, Finish, Inquire, Decision, Log, LogAck, Repair, Records, Names, CopyAck}
-use Rattle.cl_wire.specs.Reading.{Read, Reader, done, checked, read_byte, read_between, read_number, read_positive, read_flag, read_actor, read_node, read_virtual_node, read_place, read_txn, read_op, read_command, read_outcome, read_answer, read_entry, read_item, read_list, ◌>>=◌}
+use Rattle.cl_fields.specs.Reading.{Read, Reader, done, checked, read_byte, read_between, read_number, read_positive, read_flag, read_actor, read_node, read_virtual_node, read_place, read_txn, read_op, read_command, read_outcome, read_answer, read_entry, read_item, read_list, ◌>>=◌}
 
 -- the kinds, each at the place that is its byte
 abbrev pub all_kinds : List Kind

@@ -1,15 +1,16 @@
 //! From bytes to packets.
 ghost use Rattle.std.specs.Prelude.{◌≡◌, Ok, IfOk};
+ghost use Rattle.cl_fields.specs.Reading.{Gives, Reads};
 ghost use Rattle.cl_wire.specs.Message.{Message, message_of};
 ghost use Rattle.cl_wire.specs.Laws.{Spells};
 ghost use Rattle.cl_wire.specs.PacketReading as reading;
-ghost use Rattle.cl_wire.specs.Reading.{Gives, Reads, read_actor};
 ghost use Rattle.cl_wire.specs.PacketReading.{Decodes, read_kind, read_seq, read_header, read_message, read_packet};
 
+use crate::Packet;
+use crate::bodies::body;
 use crate::kind::Kind;
-use crate::limits::{ACTOR_MAX, VERSION};
-use crate::reader::Reader;
-use crate::{Packet, Undecoded, WireFault};
+use crate::limits::VERSION;
+use cl_fields::{Reader, Undecoded, WireFault};
 use std::alloc::Global;
 
 /// The fields before the body.
@@ -33,66 +34,59 @@ fn is_seq(kind: Kind, seq: u64) -> bool
     }
 }
 
-#[tactic(auto, unfolding(crate::specs::PacketReading::read_kind, crate::specs::PacketReading::read_seq, crate::specs::PacketReading::read_header))]
-impl<'a> Reader<'a> {
-    fn actor(&mut self) -> Result<u32, Undecoded>
-        ensures { Reads result self.new (read_actor self.old) }
-    {
-        self.between(0, ACTOR_MAX)
-    }
-
-    fn kind(&mut self) -> Result<Kind, Undecoded>
-        ensures { Reads result self.new (read_kind self.old) }
-    {
-        match Kind::of_byte(self.byte()?) {
-            Some(kind) => Ok(kind),
-            None => Err(WireFault::Kind.into()),
-        }
-    }
-
-    fn seq(&mut self, kind: Kind) -> Result<u64, Undecoded>
-        ensures { Reads result self.new (read_seq kind self.old) }
-    {
-        let seq = self.u64()?;
-        if is_seq(kind, seq) {
-            Ok(seq)
-        } else {
-            Err(WireFault::Field.into())
-        }
-    }
-
-    fn header(&mut self) -> Result<Header, Undecoded>
-        ensures { Reads result self.new (read_header self.old) }
-    {
-        self.between(VERSION, VERSION)?;
-        let kind = self.kind()?;
-        Ok(Header {
-            kind,
-            from: self.actor()?,
-            to: self.actor()?,
-            set: self.u32()?,
-            seq: self.seq(kind)?,
-            ack: self.u64()?,
-        })
+#[tactic(auto, unfolding(crate::specs::PacketReading::read_kind))]
+fn next_kind(reader: &mut Reader<'_>) -> Result<Kind, Undecoded>
+    ensures { Reads result reader.new (read_kind reader.old) }
+{
+    match Kind::of_byte(reader.byte()?) {
+        Some(kind) => Ok(kind),
+        None => Err(WireFault::Kind.into()),
     }
 }
 
-#[tactic(auto, unfolding(crate::specs::PacketReading::read_message))]
-impl<'a> Reader<'a> {
-    fn packet(&mut self, alloc: Global) -> Result<Packet, Undecoded>
-        ensures { Gives message_of result self.new (read_message self.old) }
-    {
-        let header = self.header()?;
-        let body = self.body(alloc, header.kind)?;
-        Ok(Packet {
-            from: header.from,
-            to: header.to,
-            set: header.set,
-            seq: header.seq,
-            ack: header.ack,
-            body,
-        })
+// The number of a message of this kind.
+#[tactic(auto, unfolding(crate::specs::PacketReading::read_seq))]
+fn next_seq(reader: &mut Reader<'_>, kind: Kind) -> Result<u64, Undecoded>
+    ensures { Reads result reader.new (read_seq kind reader.old) }
+{
+    let seq = reader.u64()?;
+    if is_seq(kind, seq) {
+        Ok(seq)
+    } else {
+        Err(WireFault::Field.into())
     }
+}
+
+#[tactic(auto, unfolding(crate::specs::PacketReading::read_header))]
+fn next_header(reader: &mut Reader<'_>) -> Result<Header, Undecoded>
+    ensures { Reads result reader.new (read_header reader.old) }
+{
+    reader.between(VERSION, VERSION)?;
+    let kind = next_kind(reader)?;
+    Ok(Header {
+        kind,
+        from: reader.actor()?,
+        to: reader.actor()?,
+        set: reader.u32()?,
+        seq: next_seq(reader, kind)?,
+        ack: reader.u64()?,
+    })
+}
+
+#[tactic(auto, unfolding(crate::specs::PacketReading::read_message))]
+fn next_packet(reader: &mut Reader<'_>, alloc: Global) -> Result<Packet, Undecoded>
+    ensures { Gives message_of result reader.new (read_message reader.old) }
+{
+    let header = next_header(reader)?;
+    let body = body(reader, alloc, header.kind)?;
+    Ok(Packet {
+        from: header.from,
+        to: header.to,
+        set: header.set,
+        seq: header.seq,
+        ack: header.ack,
+        body,
+    })
 }
 
 // The packet that the bytes are, all of the bytes.
@@ -101,7 +95,7 @@ fn read_whole(alloc: Global, bytes: &[u8]) -> Result<Packet, Undecoded>
     ensures { Decodes result (read_packet bytes.now) }
 {
     let mut reader = Reader::of(bytes);
-    let packet = reader.packet(alloc)?;
+    let packet = next_packet(&mut reader, alloc)?;
     if reader.is_at_end() {
         Ok(packet)
     } else {

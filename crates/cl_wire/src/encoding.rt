@@ -1,16 +1,15 @@
 //! From packets to bytes.
 ghost use Rattle.std.specs.Prelude.{◌≡◌, ◌++◌, IfOk, OnOk};
-ghost use Rattle.cl_types.specs.GrowingList.{items};
+ghost use Rattle.cl_fields.specs.Spelling.{byte, number_32, number_64, flag_byte, txn_bytes};
+ghost use Rattle.cl_fields.specs.Range.{IsVirtualNode, IsTxn};
 ghost use Rattle.cl_wire.specs.Message.{content_of, kind_of, message_of};
-ghost use Rattle.cl_wire.specs.Spelling.{byte, txn_bytes, item_bytes, list_bytes, kind_byte, header_bytes, content_bytes, spelling};
-ghost use Rattle.cl_wire.specs.Range.{IsVirtualNode, IsTxn, IsItem, IsContent, IsInRange, AreFew};
+ghost use Rattle.cl_wire.specs.Spelling.{header_bytes, content_bytes, spelling};
+ghost use Rattle.cl_wire.specs.Range.{IsContent, IsInRange};
 
 use crate::kind::Kind;
 use crate::limits::{PACKET_MAX, VERSION};
-use crate::writer::Writer;
 use crate::{Body, Packet};
-use cl_log::TxnList;
-use cl_store::ItemList;
+use cl_fields::Writer;
 use cl_types::{NoMemory, TxnId};
 use std::alloc::Global;
 
@@ -40,135 +39,120 @@ impl Body {
     }
 }
 
-impl Writer {
-    // Writes records of a store, behind their number.
-    #[tactic(auto, unfolding(crate::specs::Spelling::list_bytes))]
-    fn items(&mut self, list: &ItemList) -> Result<(), NoMemory>
-        requires { AreFew IsItem (items list.now) }
-        ensures { OnOk result (self.new ≡ self.old ++ list_bytes item_bytes (items list.now)) }
-    {
-        self.byte(list.len() as u8)?;
-        for item in list.as_slice() {
-            self.item(item)?;
+// Writes a virtual node and a transaction.
+fn write_part(writer: &mut Writer, v: u32, txn: TxnId) -> Result<(), NoMemory>
+    requires v { IsVirtualNode v }
+    requires txn { IsTxn txn }
+    ensures { OnOk result (writer.new ≡ writer.old ++ byte v ++ txn_bytes txn) }
+{
+    writer.small(v)?;
+    writer.txn(txn)
+}
+
+// Writes a virtual node, a transaction and the place of a command in it.
+fn write_place(writer: &mut Writer, v: u32, txn: TxnId, place: u32) -> Result<(), NoMemory>
+    requires v { IsVirtualNode v }
+    requires txn { IsTxn txn }
+    ensures { OnOk result (writer.new ≡ writer.old ++ byte v ++ txn_bytes txn ++ number_32 place) }
+{
+    write_part(writer, v, txn)?;
+    writer.u32(place)
+}
+
+// Writes a virtual node, a transaction and whether it is committed.
+fn write_end(writer: &mut Writer, v: u32, txn: TxnId, commit: bool) -> Result<(), NoMemory>
+    requires v { IsVirtualNode v }
+    requires txn { IsTxn txn }
+    ensures { OnOk result (writer.new ≡ writer.old ++ byte v ++ txn_bytes txn ++ byte (flag_byte commit)) }
+{
+    write_part(writer, v, txn)?;
+    writer.flag(commit)
+}
+
+// Writes a virtual node and a number of its log.
+fn write_number(writer: &mut Writer, v: u32, number: u64) -> Result<(), NoMemory>
+    requires { IsVirtualNode v }
+    ensures { OnOk result (writer.new ≡ writer.old ++ byte v ++ number_64 number) }
+{
+    writer.small(v)?;
+    writer.u64(number)
+}
+
+// Writes a virtual node and the index of a piece of its copy.
+fn write_index(writer: &mut Writer, v: u32, index: u32) -> Result<(), NoMemory>
+    requires { IsVirtualNode v }
+    ensures { OnOk result (writer.new ≡ writer.old ++ byte v ++ number_32 index) }
+{
+    writer.small(v)?;
+    writer.u32(index)
+}
+
+// Writes the fields after the header.
+#[tactic(auto, unfolding(crate::specs::Spelling::content_bytes))]
+fn write_body(writer: &mut Writer, body: &Body) -> Result<(), NoMemory>
+    requires { IsContent (content_of body.now) }
+    ensures { OnOk result (writer.new ≡ writer.old ++ content_bytes (content_of body.now)) }
+{
+    match body {
+        Body::Bare => Ok(()),
+        Body::Command(v, txn, place, asked) => {
+            write_place(writer, *v, *txn, *place)?;
+            writer.command(asked)
         }
-        Ok(())
-    }
-
-    // Writes names of transactions, behind their number.
-    #[tactic(auto, unfolding(crate::specs::Spelling::list_bytes))]
-    fn txns(&mut self, list: &TxnList) -> Result<(), NoMemory>
-        requires { AreFew IsTxn (items list.now) }
-        ensures { OnOk result (self.new ≡ self.old ++ list_bytes txn_bytes (items list.now)) }
-    {
-        self.byte(list.len() as u8)?;
-        for txn in list.as_slice() {
-            self.txn(*txn)?;
+        Body::Outcome(txn, place, outcome) => {
+            writer.txn(*txn)?;
+            writer.u32(*place)?;
+            writer.outcome(outcome)
         }
-        Ok(())
-    }
-
-    // Writes a virtual node and a transaction.
-    fn part(&mut self, v: u32, txn: TxnId) -> Result<(), NoMemory>
-        requires v { IsVirtualNode v }
-        requires txn { IsTxn txn }
-        ensures { OnOk result (self.new ≡ self.old ++ byte v ++ txn_bytes txn) }
-    {
-        self.small(v)?;
-        self.txn(txn)
-    }
-
-    // Writes the fields after the header.
-    #[tactic(auto, unfolding(crate::specs::Spelling::content_bytes))]
-    fn body(&mut self, body: &Body) -> Result<(), NoMemory>
-        requires { IsContent (content_of body.now) }
-        ensures { OnOk result (self.new ≡ self.old ++ content_bytes (content_of body.now)) }
-    {
-        match body {
-            Body::Bare => {}
-            Body::Command(v, txn, place, asked) => {
-                self.part(*v, *txn)?;
-                self.u32(*place)?;
-                self.command(asked)?;
-            }
-            Body::Outcome(txn, place, outcome) => {
-                self.txn(*txn)?;
-                self.u32(*place)?;
-                self.outcome(outcome)?;
-            }
-            Body::Ask(v, txn, place, table, key, op) => {
-                self.part(*v, *txn)?;
-                self.u32(*place)?;
-                self.op(table, key, op)?;
-            }
-            Body::Answer(v, txn, place, answer) => {
-                self.part(*v, *txn)?;
-                self.u32(*place)?;
-                self.answer(answer)?;
-            }
-            Body::Prepare(v, txn) => {
-                self.part(*v, *txn)?;
-            }
-            Body::Vote(v, txn) => {
-                self.part(*v, *txn)?;
-            }
-            Body::Finish(v, txn, commit) => {
-                self.part(*v, *txn)?;
-                self.flag(*commit)?;
-            }
-            Body::Inquire(v, txn) => {
-                self.part(*v, *txn)?;
-            }
-            Body::Decision(v, txn, commit) => {
-                self.part(*v, *txn)?;
-                self.flag(*commit)?;
-            }
-            Body::Log(v, number, entry) => {
-                self.small(*v)?;
-                self.u64(*number)?;
-                self.entry(entry)?;
-            }
-            Body::LogAck(v, number) => {
-                self.small(*v)?;
-                self.u64(*number)?;
-            }
-            Body::Repair(v, node) => {
-                self.small(*v)?;
-                self.small(*node)?;
-            }
-            Body::Records(v, index, records) => {
-                self.small(*v)?;
-                self.u32(*index)?;
-                self.items(records)?;
-            }
-            Body::Names(v, index, last, low, txns) => {
-                self.small(*v)?;
-                self.u32(*index)?;
-                self.flag(*last)?;
-                self.u64(*low)?;
-                self.txns(txns)?;
-            }
-            Body::CopyAck(v, index) => {
-                self.small(*v)?;
-                self.u32(*index)?;
-            }
+        Body::Ask(v, txn, place, table, key, op) => {
+            write_place(writer, *v, *txn, *place)?;
+            writer.op(table, key, op)
         }
-        Ok(())
+        Body::Answer(v, txn, place, answer) => {
+            write_place(writer, *v, *txn, *place)?;
+            writer.answer(answer)
+        }
+        Body::Prepare(v, txn) => write_part(writer, *v, *txn),
+        Body::Vote(v, txn) => write_part(writer, *v, *txn),
+        Body::Finish(v, txn, commit) => write_end(writer, *v, *txn, *commit),
+        Body::Inquire(v, txn) => write_part(writer, *v, *txn),
+        Body::Decision(v, txn, commit) => write_end(writer, *v, *txn, *commit),
+        Body::Log(v, number, entry) => {
+            write_number(writer, *v, *number)?;
+            writer.entry(entry)
+        }
+        Body::LogAck(v, number) => write_number(writer, *v, *number),
+        Body::Repair(v, node) => {
+            writer.small(*v)?;
+            writer.small(*node)
+        }
+        Body::Records(v, index, records) => {
+            write_index(writer, *v, *index)?;
+            writer.items(records)
+        }
+        Body::Names(v, index, last, low, txns) => {
+            write_index(writer, *v, *index)?;
+            writer.flag(*last)?;
+            writer.u64(*low)?;
+            writer.txns(txns)
+        }
+        Body::CopyAck(v, index) => write_index(writer, *v, *index),
     }
+}
 
-    // Writes the fields before the body.
-    #[tactic(auto, unfolding(crate::specs::Spelling::header_bytes))]
-    fn header(&mut self, packet: &Packet) -> Result<(), NoMemory>
-        requires { IsInRange (message_of packet.now) }
-        ensures { OnOk result (self.new ≡ self.old ++ header_bytes (message_of packet.now)) }
-    {
-        self.byte(VERSION)?;
-        self.byte(packet.body.kind().byte())?;
-        self.small(packet.from)?;
-        self.small(packet.to)?;
-        self.u32(packet.set)?;
-        self.u64(packet.seq)?;
-        self.u64(packet.ack)
-    }
+// Writes the fields before the body.
+#[tactic(auto, unfolding(crate::specs::Spelling::header_bytes))]
+fn write_header(writer: &mut Writer, packet: &Packet) -> Result<(), NoMemory>
+    requires { IsInRange (message_of packet.now) }
+    ensures { OnOk result (writer.new ≡ writer.old ++ header_bytes (message_of packet.now)) }
+{
+    writer.byte(VERSION)?;
+    writer.byte(packet.body.kind().byte())?;
+    writer.small(packet.from)?;
+    writer.small(packet.to)?;
+    writer.u32(packet.set)?;
+    writer.u64(packet.seq)?;
+    writer.u64(packet.ack)
 }
 
 /// The one spelling of a packet whose fields are in their ranges. It takes memory once, and time in
@@ -179,7 +163,7 @@ pub fn encode(alloc: Global, packet: &Packet) -> Result<Vec<u8>, NoMemory>
     ensures { IfOk result (λ bytes. bytes.items ≡ spelling (message_of packet.now)) }
 {
     let mut writer = Writer::with_room(alloc, PACKET_MAX)?;
-    writer.header(packet)?;
-    writer.body(&packet.body)?;
+    write_header(&mut writer, packet)?;
+    write_body(&mut writer, &packet.body)?;
     Ok(writer.into_bytes())
 }

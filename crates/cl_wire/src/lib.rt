@@ -4,20 +4,14 @@
 mod bodies;
 mod decoding;
 mod encoding;
-mod entries;
-mod fields;
 mod kind;
 mod laws;
 mod limits;
-mod lists;
 mod packet;
-mod reader;
 #[cfg(test)]
 mod tests;
-mod undecoded;
-mod writer;
-mod writing;
 
+pub use cl_fields::{Undecoded, WireFault};
 pub use decoding::decode;
 pub use encoding::encode;
 pub use laws::{
@@ -26,4 +20,3 @@ pub use laws::{
 };
 pub use limits::PACKET_MAX;
 pub use packet::{Body, Packet};
-pub use undecoded::{Undecoded, WireFault};

@@ -1,0 +1,12 @@
+pub mod AnswerLaws
+pub mod EntryLaws
+pub mod FieldLengths
+pub mod Lengths
+pub mod ListLaws
+pub mod Members
+pub mod NameLaws
+pub mod Nested
+pub mod NumberLaws
+pub mod Readers
+pub mod Settling
+pub mod SettlingFields

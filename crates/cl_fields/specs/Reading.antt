@@ -1,0 +1,308 @@
+-- Reading fields from the left of the bytes, or the fault of the first that cannot be read.
+use Rattle.std.specs.Prelude.{◌≡◌, ℕ, zero, suc, Bool, true, false, nat_le, nat_lt, ◌==◌, if◌then◌else◌, List, [], ◌∷◌, length, take, drop, Option, Some, None, ℤ, Result, Ok, Err}
+use Rattle.std.specs.Int.{Width, w16, w32, w64, byte_len, from_be_bytes, cast_signed}
+use Rattle.cl_types.specs.Names.{is_between, is_table_name, is_key, is_value}
+use Rattle.cl_types.specs.declared.operations.TxnId.{TxnId}
+use Rattle.cl_types.specs.declared.operations.Mode.{Mode}
+use Rattle.cl_types.specs.declared.operations.Mode.TheVariants.{Shared, Exclusive}
+use Rattle.cl_types.specs.declared.operations.Op.{Op}
+use Rattle.cl_types.specs.declared.operations.Op.TheVariants.{Get, Put, Del, Add}
+use Rattle.cl_types.specs.declared.operations.Command.{Command as ClientCommand}
+use Rattle.cl_types.specs.declared.operations.Command.TheVariants.{Begin, Work, Commit, Abort}
+use Rattle.cl_types.specs.declared.answers.Reply.{Reply}
+use Rattle.cl_types.specs.declared.answers.Reply.TheVariants as replies
+use Rattle.cl_types.specs.declared.answers.AbortCause.{AbortCause}
+use Rattle.cl_types.specs.declared.answers.AbortCause.TheVariants as causes
+use Rattle.cl_types.specs.declared.answers.Answer.{Answer as OpAnswer}
+use Rattle.cl_types.specs.declared.answers.Answer.TheVariants as answers
+use Rattle.cl_types.specs.declared.answers.Outcome.{Outcome as CommandOutcome}
+use Rattle.cl_types.specs.declared.answers.Outcome.TheVariants as outcomes
+use Rattle.cl_log.specs.declared.records.Form.{Form}
+use Rattle.cl_log.specs.declared.records.Form.TheVariants.{Image, Amount}
+use Rattle.cl_log.specs.declared.records.LogRec.{LogRec}
+use Rattle.cl_log.specs.declared.records.LogRec.TheVariants as entries
+use Rattle.cl_store.specs.declared.item.Item.{Item}
+use Rattle.cl_fields.specs.declared.undecoded.WireFault.{WireFault}
+use Rattle.cl_fields.specs.declared.undecoded.WireFault.TheVariants as faults
+use Rattle.cl_fields.specs.declared.undecoded.Undecoded.{Undecoded}
+use Rattle.cl_fields.specs.declared.undecoded.Undecoded.TheVariants as undecoded
+
+-- what stands first in the bytes, and the bytes after it; or the fault
+abbrev pub Read : Type 0 → Type 0
+Read A = Result (A × List ℕ) WireFault
+
+abbrev pub Reader : Type 0 → Type 0
+Reader A = List ℕ → Read A
+
+-- what is read next, unless there was a fault
+abbrev pub onward : {A B : Type 0} → Read A → (A → Reader B) → Read B
+onward (Ok found) next = next found.0 found.1
+onward (Err fault) next = Err fault
+
+infixl 10 ◌>>=◌
+abbrev pub ◌>>=◌ : {A B : Type 0} → Reader A → (A → Reader B) → Reader B
+(reader >>= next) bytes = onward (reader bytes) next
+
+-- nothing is left to read of this
+abbrev pub done : {A : Type 0} → A → Reader A
+done found bytes = Ok (found, bytes)
+
+-- what was read, if it passes, and Field if not
+abbrev pub checked : {A : Type 0} → Bool → A → Reader A
+checked passes found bytes = if passes then Ok (found, bytes) else Err faults.Field
+
+-- no form of the field begins so
+abbrev pub out_of_range : {A : Type 0} → Reader A
+out_of_range bytes = Err faults.Field
+
+-- the next byte
+unfoldable pub read_byte : Reader ℕ
+read_byte [] = Err faults.Short
+read_byte (b ∷ bytes) = Ok (b, bytes)
+
+-- so many bytes
+unfoldable pub read_bytes : ℕ → Reader (List ℕ)
+read_bytes count bytes = if nat_lt (length bytes) count then Err faults.Short else Ok (take count bytes, drop count bytes)
+
+-- a byte from low to high
+unfoldable pub read_between : ℕ → ℕ → Reader ℕ
+read_between low high = do
+  b ← read_byte
+  checked (is_between low high b) b
+
+-- a number of that width
+unfoldable pub read_number : Width → Reader ℕ
+read_number w = do
+  text ← read_bytes (byte_len w)
+  done (from_be_bytes w text)
+
+-- a number of that width that is at least 1
+unfoldable pub read_positive : Width → Reader ℕ
+read_positive w = do
+  n ← read_number w
+  checked (nat_le 1 n) n
+
+unfoldable pub read_amount : Reader ℤ
+read_amount = do
+  bits ← read_number w64
+  done (cast_signed w64 bits)
+
+unfoldable pub read_flag : Reader Bool
+read_flag = do
+  b ← read_byte
+  if b == 0 then done false else (if b == 1 then done true else out_of_range)
+
+unfoldable pub read_mode : Reader Mode
+read_mode = do
+  b ← read_byte
+  if b == 1 then done Shared else (if b == 2 then done Exclusive else out_of_range)
+
+abbrev pub read_actor : Reader ℕ
+read_actor = read_between 0 16
+
+abbrev pub read_node : Reader ℕ
+read_node = read_between 0 15
+
+abbrev pub read_virtual_node : Reader ℕ
+read_virtual_node = read_between 0 7
+
+unfoldable pub read_place : Reader ℕ
+read_place = do
+  place ← read_number w32
+  checked (nat_le place 65) place
+
+unfoldable pub read_txn : Reader TxnId
+read_txn = do
+  session ← read_between 1 64
+  number ← read_positive w64
+  done (record { session = session; number = number })
+
+-- a byte of length, and that many bytes
+unfoldable pub read_text : Reader (List ℕ)
+read_text = do
+  count ← read_byte
+  read_bytes count
+
+unfoldable pub read_table : Reader (List ℕ)
+read_table = do
+  text ← read_text
+  checked (is_table_name text) text
+
+unfoldable pub read_key : Reader (List ℕ)
+read_key = do
+  text ← read_text
+  checked (is_key text) text
+
+-- the length of a value: 1 to 128
+unfoldable pub read_value_length : Reader ℕ
+read_value_length = do
+  count ← read_number w16
+  checked (is_between 1 128 count) count
+
+-- the length, and then that many bytes
+unfoldable pub read_value : Reader (List ℕ)
+read_value = do
+  count ← read_value_length
+  text ← read_bytes count
+  checked (is_value text) text
+
+-- a flag, and the value where it is 1
+unfoldable pub read_image : Reader (Option (List ℕ))
+read_image = do
+  there ← read_flag
+  if there then (read_value >>= λ value. done (Some value)) else done None
+
+unfoldable pub read_form : Reader Form
+read_form = do
+  is_amount ← read_flag
+  if is_amount then (read_amount >>= λ amount. done (Amount amount)) else (read_image >>= λ image. done (Image image))
+
+-- what stands after the key of an operation with this byte
+unfoldable pub read_operand : ℕ → Reader Op
+read_operand b =
+    if b == 1 then done Get
+    else (if b == 2 then (read_value >>= λ value. done (Put value))
+    else (if b == 3 then done Del
+    else (if b == 4 then (read_amount >>= λ amount. done (Add amount)) else out_of_range)))
+
+-- a table, a key and an operation, after the operation's byte
+unfoldable pub read_work : ℕ → Reader (List ℕ × List ℕ × Op)
+read_work b = do
+  table ← read_table
+  key ← read_key
+  op ← read_operand b
+  done (table, key, op)
+
+unfoldable pub read_op : Reader (List ℕ × List ℕ × Op)
+read_op = do
+  b ← read_between 1 4
+  read_work b
+
+unfoldable pub read_command : Reader ClientCommand
+read_command = do
+  b ← read_byte
+  if b == 0 then done Begin
+      else (if b == 5 then done Commit
+      else (if b == 6 then done Abort
+      else (if is_between 1 4 b then (read_work b >>= λ work. done (Work work.0 work.1 work.2)) else out_of_range)))
+
+unfoldable pub read_reply : Reader Reply
+read_reply = do
+  b ← read_byte
+  if b == 0 then done replies.Stored
+      else (if b == 1 then (read_value >>= λ value. done (replies.Found value))
+      else (if b == 2 then done replies.Absent
+      else (if b == 3 then (read_amount >>= λ sum. done (replies.Sum sum))
+      else (if b == 4 then done replies.NotNumber
+      else (if b == 5 then done replies.OutOfRange else out_of_range)))))
+
+unfoldable pub read_cause : Reader AbortCause
+read_cause = do
+  b ← read_byte
+  if b == 0 then (read_txn >>= λ holder. done (causes.Conflict holder))
+      else (if b == 1 then (read_node >>= λ node. done (causes.Node node))
+      else (if b == 2 then done causes.Client
+      else (if b == 3 then done causes.Memory else out_of_range)))
+
+unfoldable pub read_outcome : Reader CommandOutcome
+read_outcome = do
+  b ← read_byte
+  if b == 0 then (read_reply >>= λ reply. done (outcomes.Done reply))
+      else (if b == 1 then done outcomes.Begun
+      else (if b == 2 then done outcomes.Committed
+      else (if b == 3 then (read_cause >>= λ cause. done (outcomes.Aborted cause)) else out_of_range)))
+
+unfoldable pub read_answer : Reader OpAnswer
+read_answer = do
+  b ← read_byte
+  if b == 0 then (read_reply >>= λ reply. done (answers.Done reply))
+      else (if b == 1 then (read_txn >>= λ holder. done (answers.Refused holder))
+      else (if b == 2 then done answers.NoMemory else out_of_range))
+
+unfoldable pub read_touch : Reader LogRec
+read_touch = do
+  txn ← read_txn
+  table ← read_table
+  key ← read_key
+  mode ← read_mode
+  done (entries.Touch txn table key mode)
+
+unfoldable pub read_set : Reader LogRec
+read_set = do
+  txn ← read_txn
+  table ← read_table
+  key ← read_key
+  before ← read_number w64
+  old ← read_image
+  new ← read_image
+  done (entries.Set txn table key before old new)
+
+unfoldable pub read_add : Reader LogRec
+read_add = do
+  txn ← read_txn
+  table ← read_table
+  key ← read_key
+  before ← read_number w64
+  amount ← read_amount
+  done (entries.Add txn table key before amount)
+
+unfoldable pub read_comp : Reader LogRec
+read_comp = do
+  txn ← read_txn
+  table ← read_table
+  key ← read_key
+  before ← read_number w64
+  undone ← read_positive w64
+  form ← read_form
+  done (entries.Comp txn table key before undone form)
+
+unfoldable pub read_end : Reader LogRec
+read_end = do
+  txn ← read_txn
+  commit ← read_flag
+  done (entries.End txn commit)
+
+-- a record of a log
+unfoldable pub read_entry : Reader LogRec
+read_entry = do
+  b ← read_byte
+  if b == 1 then read_touch
+      else (if b == 2 then read_set
+      else (if b == 3 then read_add
+      else (if b == 4 then read_comp
+      else (if b == 5 then (read_txn >>= λ txn. done (entries.Prepared txn))
+      else (if b == 6 then read_end
+      else (if b == 7 then (read_txn >>= λ txn. done (entries.Decide txn)) else out_of_range))))))
+
+-- a record of a store
+unfoldable pub read_item : Reader Item
+read_item = do
+  table ← read_table
+  key ← read_key
+  number ← read_positive w64
+  value ← read_image
+  done (record { table = table; key = key; number = number; value = value })
+
+-- so many members
+unfoldable pub read_members : {A : Type 0} → Reader A → ℕ → Reader (List A)
+read_members read_member zero = done []
+read_members read_member (suc count) = do
+  first ← read_member
+  others ← read_members read_member count
+  done (first ∷ others)
+
+-- a byte of length, at most 4, and the members
+unfoldable pub read_list : {A : Type 0} → Reader A → Reader (List A)
+read_list read_member = do
+  count ← read_between 0 4
+  read_members read_member count
+
+-- a reader of the code answered what reading gives, seen by view, and left what reading leaves; or memory ran out
+abbrev pub Gives : {X Y : Type 0} → (X → Y) → Result X Undecoded → List ℕ → Read Y → Type 0
+Gives view (Ok found) left read = read ≡ Ok (view found, left)
+Gives view (Err (undecoded.Fault fault)) left read = read ≡ Err fault
+Gives view (Err undecoded.NoMemory) left read = Unit {0}
+
+-- the same where what is read is pure data
+abbrev pub Reads : {X : Type 0} → Result X Undecoded → List ℕ → Read X → Type 0
+Reads result left read = Gives (λ found. found) result left read

@@ -1,0 +1,137 @@
+-- The one spelling of each field: which bytes stand for it. Numbers are big-endian.
+use Rattle.std.specs.Prelude.{ℕ, Bool, true, false, List, [], ◌∷◌, ◌++◌, length, Option, Some, None, ℤ}
+use Rattle.std.specs.List.{flat_map}
+use Rattle.std.specs.Int.{w16, w32, w64, to_be_bytes, cast_unsigned}
+use Rattle.cl_types.specs.declared.operations.TxnId.{TxnId}
+use Rattle.cl_types.specs.declared.operations.Mode.{Mode}
+use Rattle.cl_types.specs.declared.operations.Mode.TheVariants.{Shared, Exclusive}
+use Rattle.cl_types.specs.declared.operations.Op.{Op}
+use Rattle.cl_types.specs.declared.operations.Op.TheVariants.{Get, Put, Del, Add}
+use Rattle.cl_types.specs.declared.operations.Command.{Command as ClientCommand}
+use Rattle.cl_types.specs.declared.operations.Command.TheVariants.{Begin, Work, Commit, Abort}
+use Rattle.cl_types.specs.declared.answers.Reply.{Reply}
+use Rattle.cl_types.specs.declared.answers.Reply.TheVariants as replies
+use Rattle.cl_types.specs.declared.answers.AbortCause.{AbortCause}
+use Rattle.cl_types.specs.declared.answers.AbortCause.TheVariants as causes
+use Rattle.cl_types.specs.declared.answers.Answer.{Answer as OpAnswer}
+use Rattle.cl_types.specs.declared.answers.Answer.TheVariants as answers
+use Rattle.cl_types.specs.declared.answers.Outcome.{Outcome as CommandOutcome}
+use Rattle.cl_types.specs.declared.answers.Outcome.TheVariants as outcomes
+use Rattle.cl_log.specs.declared.records.Form.{Form}
+use Rattle.cl_log.specs.declared.records.Form.TheVariants.{Image, Amount}
+use Rattle.cl_log.specs.declared.records.LogRec.{LogRec}
+use Rattle.cl_log.specs.declared.records.LogRec.TheVariants as entries
+use Rattle.cl_store.specs.declared.item.Item.{Item}
+
+abbrev pub byte : ℕ → List ℕ
+byte n = n ∷ []
+
+-- four bytes
+unfoldable pub number_32 : ℕ → List ℕ
+number_32 n = to_be_bytes w32 n
+
+-- eight bytes
+unfoldable pub number_64 : ℕ → List ℕ
+number_64 n = to_be_bytes w64 n
+
+-- eight bytes in two's complement
+unfoldable pub amount_bytes : ℤ → List ℕ
+amount_bytes amount = number_64 (cast_unsigned w64 amount)
+
+abbrev pub flag_byte : Bool → ℕ
+flag_byte false = 0
+flag_byte true = 1
+
+abbrev pub mode_byte : Mode → ℕ
+mode_byte Shared = 1
+mode_byte Exclusive = 2
+
+unfoldable pub txn_bytes : TxnId → List ℕ
+txn_bytes txn = byte txn.session ++ number_64 txn.number
+
+-- a table's name or a key: a byte of length, and that many bytes
+unfoldable pub name_bytes : List ℕ → List ℕ
+name_bytes name = byte (length name) ++ name
+
+-- a value: two bytes of length, and that many bytes
+unfoldable pub value_bytes : List ℕ → List ℕ
+value_bytes value = to_be_bytes w16 (length value) ++ value
+
+-- a flag, and the value where there is one
+unfoldable pub image_bytes : Option (List ℕ) → List ℕ
+image_bytes None = byte 0
+image_bytes (Some value) = byte 1 ++ value_bytes value
+
+unfoldable pub form_bytes : Form → List ℕ
+form_bytes (Image image) = byte 0 ++ image_bytes image
+form_bytes (Amount amount) = byte 1 ++ amount_bytes amount
+
+-- the byte of an operation
+abbrev pub op_byte : Op → ℕ
+op_byte Get = 1
+op_byte (Put value) = 2
+op_byte Del = 3
+op_byte (Add amount) = 4
+
+-- what stands after the key
+abbrev pub operand_bytes : Op → List ℕ
+operand_bytes Get = []
+operand_bytes (Put value) = value_bytes value
+operand_bytes Del = []
+operand_bytes (Add amount) = amount_bytes amount
+
+unfoldable pub op_bytes : List ℕ → List ℕ → Op → List ℕ
+op_bytes table key op = byte (op_byte op) ++ name_bytes table ++ name_bytes key ++ operand_bytes op
+
+unfoldable pub command_bytes : ClientCommand → List ℕ
+command_bytes Begin = byte 0
+command_bytes (Work table key op) = op_bytes table key op
+command_bytes Commit = byte 5
+command_bytes Abort = byte 6
+
+unfoldable pub reply_bytes : Reply → List ℕ
+reply_bytes replies.Stored = byte 0
+reply_bytes (replies.Found value) = byte 1 ++ value_bytes value
+reply_bytes replies.Absent = byte 2
+reply_bytes (replies.Sum sum) = byte 3 ++ amount_bytes sum
+reply_bytes replies.NotNumber = byte 4
+reply_bytes replies.OutOfRange = byte 5
+
+unfoldable pub cause_bytes : AbortCause → List ℕ
+cause_bytes (causes.Conflict txn) = byte 0 ++ txn_bytes txn
+cause_bytes (causes.Node node) = byte 1 ++ byte node
+cause_bytes causes.Client = byte 2
+cause_bytes causes.Memory = byte 3
+
+-- the outcomes of commands that go to a controller; the others are sent by nobody
+unfoldable pub outcome_bytes : CommandOutcome → List ℕ
+outcome_bytes (outcomes.Done reply) = byte 0 ++ reply_bytes reply
+outcome_bytes outcomes.Begun = byte 1
+outcome_bytes outcomes.Committed = byte 2
+outcome_bytes (outcomes.Aborted cause) = byte 3 ++ cause_bytes cause
+outcome_bytes outcomes.NotTxn = []
+outcome_bytes outcomes.InTxn = []
+outcome_bytes outcomes.Full = []
+
+unfoldable pub answer_bytes : OpAnswer → List ℕ
+answer_bytes (answers.Done reply) = byte 0 ++ reply_bytes reply
+answer_bytes (answers.Refused holder) = byte 1 ++ txn_bytes holder
+answer_bytes answers.NoMemory = byte 2
+
+-- a record of a log
+unfoldable pub entry_bytes : LogRec → List ℕ
+entry_bytes (entries.Touch txn table key mode) = byte 1 ++ txn_bytes txn ++ name_bytes table ++ name_bytes key ++ byte (mode_byte mode)
+entry_bytes (entries.Set txn table key before old new) = byte 2 ++ txn_bytes txn ++ name_bytes table ++ name_bytes key ++ number_64 before ++ image_bytes old ++ image_bytes new
+entry_bytes (entries.Add txn table key before amount) = byte 3 ++ txn_bytes txn ++ name_bytes table ++ name_bytes key ++ number_64 before ++ amount_bytes amount
+entry_bytes (entries.Comp txn table key before undone form) = byte 4 ++ txn_bytes txn ++ name_bytes table ++ name_bytes key ++ number_64 before ++ number_64 undone ++ form_bytes form
+entry_bytes (entries.Prepared txn) = byte 5 ++ txn_bytes txn
+entry_bytes (entries.End txn commit) = byte 6 ++ txn_bytes txn ++ byte (flag_byte commit)
+entry_bytes (entries.Decide txn) = byte 7 ++ txn_bytes txn
+
+-- a record of a store
+unfoldable pub item_bytes : Item → List ℕ
+item_bytes item = name_bytes item.table ++ name_bytes item.key ++ number_64 item.number ++ image_bytes item.value
+
+-- a list: a byte of length, and its members
+unfoldable pub list_bytes : {A : Type 0} → (A → List ℕ) → List A → List ℕ
+list_bytes member_bytes members = byte (length members) ++ flat_map member_bytes members

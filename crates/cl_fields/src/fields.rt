@@ -1,0 +1,280 @@
+//! Reading the fields of packets.
+ghost use Rattle.std.specs.Prelude.{◌≡◌};
+ghost use Rattle.cl_fields.specs.Reading.{Gives, Reads, read_actor, read_node, read_virtual_node, read_place, read_mode, read_txn, read_text, read_table, read_key, read_value_length, read_value, read_image, read_form, read_operand, read_work, read_op, read_command, read_reply, read_cause, read_outcome, read_answer, read_item};
+
+use crate::WireFault;
+use crate::limits::{ACTOR_MAX, NODE_MAX, PLACE_MAX, SESSION_MAX, VIRTUAL_NODE_MAX};
+use crate::reader::Reader;
+use crate::undecoded::Undecoded;
+use cl_log::Form;
+use cl_store::Item;
+use cl_types::{
+    AbortCause, Answer, Command, Key, Mode, Op, Outcome, Reply, TableName, TxnId, VALUE_MAX, Value,
+};
+use std::alloc::Global;
+
+impl<'a> Reader<'a> {
+    /// An actor: a node, or the front, 0 to 16.
+    pub fn actor(&mut self) -> Result<u32, Undecoded>
+        ensures { Reads result self.new (read_actor self.old) }
+    {
+        self.between(0, ACTOR_MAX)
+    }
+
+    /// A virtual node, 0 to 7.
+    pub fn virtual_node(&mut self) -> Result<u32, Undecoded>
+        ensures { Reads result self.new (read_virtual_node self.old) }
+    {
+        self.between(0, VIRTUAL_NODE_MAX)
+    }
+
+    /// The place of a command in its transaction, 0 to 65.
+    #[tactic(auto, unfolding(crate::specs::Reading::read_place))]
+    pub fn place(&mut self) -> Result<u32, Undecoded>
+        ensures { Reads result self.new (read_place self.old) }
+    {
+        let place = self.u32()?;
+        if place <= PLACE_MAX {
+            Ok(place)
+        } else {
+            Err(WireFault::Field.into())
+        }
+    }
+
+    /// A node, 0 to 15.
+    pub fn node(&mut self) -> Result<u32, Undecoded>
+        ensures { Reads result self.new (read_node self.old) }
+    {
+        self.between(0, NODE_MAX)
+    }
+
+    /// The mode of a lock.
+    #[tactic(auto, unfolding(crate::specs::Reading::read_mode))]
+    pub(crate) fn mode(&mut self) -> Result<Mode, Undecoded>
+        ensures { Reads result self.new (read_mode self.old) }
+    {
+        match self.byte()? {
+            1 => Ok(Mode::Shared),
+            2 => Ok(Mode::Exclusive),
+            _ => Err(WireFault::Field.into()),
+        }
+    }
+
+    /// The name of a transaction: a session, 1 to 64, and a number, at least 1.
+    #[tactic(auto, unfolding(crate::specs::Reading::read_txn))]
+    pub fn txn(&mut self) -> Result<TxnId, Undecoded>
+        ensures { Reads result self.new (read_txn self.old) }
+    {
+        let session = self.between(1, SESSION_MAX)?;
+        let number = self.number()?;
+        Ok(TxnId { session, number })
+    }
+
+    // The bytes of a name, behind their length.
+    #[tactic(auto, unfolding(crate::specs::Reading::read_text))]
+    fn text(&mut self) -> Result<&'a [u8], Undecoded>
+        ensures { Gives (λ found. found.now) result self.new (read_text self.old) }
+    {
+        let count = self.byte()?;
+        self.bytes(usize::from(count))
+    }
+
+    /// The name of a table.
+    #[tactic(auto, unfolding(crate::specs::Reading::read_table))]
+    pub(crate) fn table(&mut self) -> Result<TableName, Undecoded>
+        ensures { Reads result self.new (read_table self.old) }
+    {
+        let text = self.text()?;
+        match TableName::read(text) {
+            Some(table) => Ok(table),
+            None => Err(WireFault::Field.into()),
+        }
+    }
+
+    /// A key.
+    #[tactic(auto, unfolding(crate::specs::Reading::read_key))]
+    pub(crate) fn key(&mut self) -> Result<Key, Undecoded>
+        ensures { Reads result self.new (read_key self.old) }
+    {
+        let text = self.text()?;
+        match Key::read(text) {
+            Some(key) => Ok(key),
+            None => Err(WireFault::Field.into()),
+        }
+    }
+}
+
+impl<'a> Reader<'a> {
+    // The length of a value.
+    #[tactic(auto, unfolding(crate::specs::Reading::read_value_length))]
+    fn value_length(&mut self) -> Result<usize, Undecoded>
+        ensures { Reads result self.new (read_value_length self.old) }
+    {
+        let count = usize::from(self.u16()?);
+        if 1 <= count && count <= VALUE_MAX {
+            Ok(count)
+        } else {
+            Err(WireFault::Field.into())
+        }
+    }
+
+    /// A value.
+    #[tactic(auto, unfolding(crate::specs::Reading::read_value))]
+    pub(crate) fn value(&mut self, alloc: Global) -> Result<Value, Undecoded>
+        ensures { Reads result self.new (read_value self.old) }
+    {
+        let count = self.value_length()?;
+        let text = self.bytes(count)?;
+        match Value::read(alloc, text)? {
+            Some(value) => Ok(value),
+            None => Err(WireFault::Field.into()),
+        }
+    }
+
+    /// A value, or nothing.
+    #[tactic(auto, unfolding(crate::specs::Reading::read_image))]
+    pub(crate) fn image(&mut self, alloc: Global) -> Result<Option<Value>, Undecoded>
+        ensures { Reads result self.new (read_image self.old) }
+    {
+        if self.flag()? {
+            Ok(Some(self.value(alloc)?))
+        } else {
+            Ok(None)
+        }
+    }
+
+    /// What a compensation does.
+    #[tactic(auto, unfolding(crate::specs::Reading::read_form))]
+    pub(crate) fn form(&mut self, alloc: Global) -> Result<Form, Undecoded>
+        ensures { Reads result self.new (read_form self.old) }
+    {
+        if self.flag()? {
+            Ok(Form::Amount(self.amount()?))
+        } else {
+            Ok(Form::Image(self.image(alloc)?))
+        }
+    }
+
+    // What stands after the key of an operation with this byte.
+    #[tactic(auto, unfolding(crate::specs::Reading::read_operand))]
+    fn operand(&mut self, alloc: Global, byte: u32) -> Result<Op, Undecoded>
+        ensures { Reads result self.new (read_operand byte self.old) }
+    {
+        match byte {
+            1 => Ok(Op::Get),
+            2 => Ok(Op::Put(self.value(alloc)?)),
+            3 => Ok(Op::Del),
+            4 => Ok(Op::Add(self.amount()?)),
+            _ => Err(WireFault::Field.into()),
+        }
+    }
+
+    // An operation on a record, after its byte.
+    #[tactic(auto, unfolding(crate::specs::Reading::read_work))]
+    fn work(&mut self, alloc: Global, byte: u32) -> Result<(TableName, Key, Op), Undecoded>
+        ensures { Reads result self.new (read_work byte self.old) }
+    {
+        let table = self.table()?;
+        let key = self.key()?;
+        let op = self.operand(alloc, byte)?;
+        Ok((table, key, op))
+    }
+
+    /// An operation on a record: a table, a key, and what is done there.
+    #[tactic(auto, unfolding(crate::specs::Reading::read_op))]
+    pub fn op(&mut self, alloc: Global) -> Result<(TableName, Key, Op), Undecoded>
+        ensures { Reads result self.new (read_op self.old) }
+    {
+        let byte = self.between(1, 4)?;
+        self.work(alloc, byte)
+    }
+
+    /// A client's command.
+    #[tactic(auto, unfolding(crate::specs::Reading::read_command))]
+    pub fn command(&mut self, alloc: Global) -> Result<Command, Undecoded>
+        ensures { Reads result self.new (read_command self.old) }
+    {
+        match self.byte()? {
+            0 => Ok(Command::Begin),
+            5 => Ok(Command::Commit),
+            6 => Ok(Command::Abort),
+            byte @ 1..=4 => {
+                let (table, key, op) = self.work(alloc, u32::from(byte))?;
+                Ok(Command::Work(table, key, op))
+            }
+            _ => Err(WireFault::Field.into()),
+        }
+    }
+
+    /// A record of a store.
+    #[tactic(auto, unfolding(crate::specs::Reading::read_item))]
+    pub(crate) fn item(&mut self, alloc: Global) -> Result<Item, Undecoded>
+        ensures { Reads result self.new (read_item self.old) }
+    {
+        Ok(Item {
+            table: self.table()?,
+            key: self.key()?,
+            number: self.number()?,
+            value: self.image(alloc)?,
+        })
+    }
+}
+
+impl<'a> Reader<'a> {
+    /// The reply to an operation.
+    #[tactic(auto, unfolding(crate::specs::Reading::read_reply))]
+    pub(crate) fn reply(&mut self, alloc: Global) -> Result<Reply, Undecoded>
+        ensures { Reads result self.new (read_reply self.old) }
+    {
+        match self.byte()? {
+            0 => Ok(Reply::Stored),
+            1 => Ok(Reply::Found(self.value(alloc)?)),
+            2 => Ok(Reply::Absent),
+            3 => Ok(Reply::Sum(self.amount()?)),
+            4 => Ok(Reply::NotNumber),
+            5 => Ok(Reply::OutOfRange),
+            _ => Err(WireFault::Field.into()),
+        }
+    }
+
+    // Why a transaction was aborted.
+    #[tactic(auto, unfolding(crate::specs::Reading::read_cause))]
+    fn cause(&mut self) -> Result<AbortCause, Undecoded>
+        ensures { Reads result self.new (read_cause self.old) }
+    {
+        match self.byte()? {
+            0 => Ok(AbortCause::Conflict(self.txn()?)),
+            1 => Ok(AbortCause::Node(self.node()?)),
+            2 => Ok(AbortCause::Client),
+            3 => Ok(AbortCause::Memory),
+            _ => Err(WireFault::Field.into()),
+        }
+    }
+
+    /// The outcome of a command that goes to a controller.
+    #[tactic(auto, unfolding(crate::specs::Reading::read_outcome))]
+    pub fn outcome(&mut self, alloc: Global) -> Result<Outcome, Undecoded>
+        ensures { Reads result self.new (read_outcome self.old) }
+    {
+        match self.byte()? {
+            0 => Ok(Outcome::Done(self.reply(alloc)?)),
+            1 => Ok(Outcome::Begun),
+            2 => Ok(Outcome::Committed),
+            3 => Ok(Outcome::Aborted(self.cause()?)),
+            _ => Err(WireFault::Field.into()),
+        }
+    }
+
+    /// A participant's answer.
+    #[tactic(auto, unfolding(crate::specs::Reading::read_answer))]
+    pub fn answer(&mut self, alloc: Global) -> Result<Answer, Undecoded>
+        ensures { Reads result self.new (read_answer self.old) }
+    {
+        match self.byte()? {
+            0 => Ok(Answer::Done(self.reply(alloc)?)),
+            1 => Ok(Answer::Refused(self.txn()?)),
+            2 => Ok(Answer::NoMemory),
+            _ => Err(WireFault::Field.into()),
+        }
+    }
+}
