@@ -13,7 +13,7 @@ use Rattle.cl_lines.specs.Line.{line_of}
 use Rattle.cl_lines.specs.Laws.{IsAskable}
 use Rattle.cl_lines.proofs.Spellings.{spells_from_line}
 use Rattle.clustra.specs.Turn.{IsAsked, turn_begun, turn_outcome, turn_values, turn_history, turn_count}
-use Rattle.clustra.specs.Kept.{AtMost64, Served}
+use Rattle.clustra.specs.Served.{AtMost64, Served}
 use Rattle.clustra.proofs.Pairs.{with_pair}
 use Rattle.clustra.proofs.Lines.{Served-answered}
 

@@ -19,7 +19,7 @@ use Rattle.cl_serial.specs.Serial.{StandsAt, IsIn, Asks, operations_of, HistoryF
 use Rattle.cl_serial.proofs.Places.{StandsAt-push, StandsAt-push_last, StandsAt-within, StandsAt-append_left, IsIn-push, IsIn-push_last, IsIn-nil}
 use Rattle.cl_serial.proofs.Replayed.{RepliesAgree-front, RepliesAgree-back}
 use Rattle.clustra.specs.Run.{values_after, OpenRepliesAgree}
-use Rattle.clustra.specs.Kept.{names, GoesOn, EndsCommitted, IsOpen, operations_in, done_by, Kept, Served}
+use Rattle.clustra.specs.Served.{names, GoesOn, EndsCommitted, IsOpen, operations_in, done_by, Together, Served}
 
 length-names : (n : ℕ) → length (names n) ≡ n
 length-names zero = refl
@@ -141,7 +141,7 @@ module _ (transcript : List Entry) (history : List TxnId) (values : Values) (beg
   abbrev all : List Transaction
   all = state.ended ++ option_to_list state.current
 
-  kept : Kept state.ended state.current (length transcript) history values begun count
+  kept : Together state.ended state.current (length transcript) history values begun count
   kept = h.kept
 
   -- a command of a transaction of any session is one of session 1, by its number

@@ -15,10 +15,10 @@ use Rattle.cl_types.specs.Places.{Place}
 use Rattle.cl_serial.specs.PlainMap.{Values, RepliesAgree}
 use Rattle.cl_serial.specs.Serial.{FitsTurn}
 use Rattle.clustra.specs.Turn.{turn_outcome, turn_count, turn_begun, turn_values, turn_history, IsAsked}
-use Rattle.clustra.specs.Kept.{Kept, Served}
+use Rattle.clustra.specs.Served.{Together, Served}
 use Rattle.clustra.proofs.Turns.{exchange_at}
 use Rattle.clustra.proofs.Orders.{InOrder-nil}
-use Rattle.clustra.proofs.Steps.{Kept-turn, FitsTurn-turn}
+use Rattle.clustra.proofs.Steps.{Together-turn, FitsTurn-turn}
 use Rattle.clustra.proofs.Pairs.{with_pair, length-with_pair, faulty_lines-with_pair, refusals-with_pair}
 use Rattle.clustra.proofs.Answered.{questions-others, answers-others, paired-longer, session_of-first, AnswersFollow-longer, AnswersFitTurns-longer, RefusalsTrue-longer, EveryLineAnswered-longer}
 use Rattle.clustra.proofs.Refused.{Served-refused_line}
@@ -66,10 +66,10 @@ Served-answered transcript number text command outcome history values after begu
     let state : Session = session_of 1 transcript in
     let longer : List Entry = with_pair transcript number text (Answer 1 outcome) in
     let new : session_of 1 longer ≡ session_step state (exchange_at (length transcript) command outcome) = session_of-first transcript number text command outcome reads h.paired in
-    let P : Session → Type 0 = λ session. Kept session.ended session.current (length longer) (turn_history count command begun history) after (turn_begun count command begun) (turn_count count command) in
-    let Q : ℕ → Type 0 = λ size. Kept (session_step state (exchange_at (length transcript) command outcome)).ended (session_step state (exchange_at (length transcript) command outcome)).current size
+    let P : Session → Type 0 = λ session. Together session.ended session.current (length longer) (turn_history count command begun history) after (turn_begun count command begun) (turn_count count command) in
+    let Q : ℕ → Type 0 = λ size. Together (session_step state (exchange_at (length transcript) command outcome)).ended (session_step state (exchange_at (length transcript) command outcome)).current size
     (turn_history count command begun history) after (turn_begun count command begun) (turn_count count command) in
-    let R : Outcome → Type 0 = λ o. Kept (session_step state (exchange_at (length transcript) command o)).ended (session_step state (exchange_at (length transcript) command o)).current (length transcript + 2)
+    let R : Outcome → Type 0 = λ o. Together (session_step state (exchange_at (length transcript) command o)).ended (session_step state (exchange_at (length transcript) command o)).current (length transcript + 2)
     (turn_history count command begun history) after (turn_begun count command begun) (turn_count count command) in
     let F : Option ℕ → Type 0 = λ c. FitsTurn state command (turn_outcome c command values) in
     let G : Outcome → Type 0 = λ o. FitsTurn state command o in
@@ -78,7 +78,7 @@ Served-answered transcript number text command outcome history values after begu
       unasked = λ session other. questions-others transcript number text command outcome reads session other ∙ h.unasked session other;
       unanswered = λ session other. answers-others transcript number text command outcome reads session other ∙ h.unanswered session other;
       kept = subst P (sym new) (subst Q (sym (length-with_pair transcript number text (Answer 1 outcome)))
-          (subst R (sym outcome_is) (Kept-turn state.ended state.current command (length transcript) history values after begun count asked changed h.kept)));
+          (subst R (sym outcome_is) (Together-turn state.ended state.current command (length transcript) history values after begun count asked changed h.kept)));
       for_members = CommittedForMembers-longer transcript number text command outcome reads history values begun count h.paired h.kept outcome_is h.for_members;
       follow = AnswersFollow-longer transcript number text command outcome reads h.follow h.paired;
       fit_turns = AnswersFitTurns-longer transcript number text command outcome reads h.fit_turns h.paired

@@ -17,7 +17,7 @@ use Rattle.cl_serial.specs.Serial.{StandsAt, IsIn, IsAnswered, CommittedForMembe
 use Rattle.cl_serial.proofs.Places.{StandsAt-push_last, IsIn-append_left, IsIn-push_last}
 use Rattle.cl_serial.proofs.Growth.{all_of}
 use Rattle.clustra.specs.Turn.{turn_outcome, turn_history}
-use Rattle.clustra.specs.Kept.{Kept, count_in}
+use Rattle.clustra.specs.Served.{Together, count_in}
 use Rattle.clustra.proofs.Turns.{exchange_at}
 use Rattle.clustra.proofs.Steps.{next}
 use Rattle.clustra.proofs.Standing.{Standing, before, the_line, the_answer, standing}
@@ -78,7 +78,7 @@ last_in_history count command begun history n is_open is_commit =
 
 module _ (transcript : List Entry) (number : ℕ) (text : List ℕ) (command : Command) (outcome : Outcome) (reads : client_of text ≡ Some (1, command))
     (history : List TxnId) (values : Values) (begun : ℕ) (count : Option ℕ) (paired : length (questions 1 transcript) ≡ length (answers 1 transcript))
-    (kept : Kept (session_of 1 transcript).ended (session_of 1 transcript).current (length transcript) history values begun count)
+    (kept : Together (session_of 1 transcript).ended (session_of 1 transcript).current (length transcript) history values begun count)
     (outcome_is : outcome ≡ turn_outcome count command values) where
   abbrev longer : List Entry
   longer = with_pair transcript number text (Answer 1 outcome)

@@ -6,7 +6,7 @@ use Rattle.cl_serial.specs.Exchanges.{Exchange}
 use Rattle.cl_serial.specs.Transactions.{Transaction, with_command}
 use Rattle.cl_serial.specs.Serial.{StandsAt, IsIn}
 use Rattle.cl_serial.proofs.Places.{StandsAt-push, StandsAt-within, StandsAt-append_left, StandsAt-push_last, IsIn-push, IsIn-nil}
-use Rattle.clustra.specs.Kept.{InOrder}
+use Rattle.clustra.specs.Served.{InOrder}
 
 -- more entries follow
 pub InOrder-longer : (all : List Transaction) (size more : ℕ) → size ≤ more → InOrder all size → InOrder all more

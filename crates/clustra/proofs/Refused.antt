@@ -11,8 +11,8 @@ use Rattle.cl_serial.specs.Transactions.{Session, session_of}
 use Rattle.cl_types.specs.Places.{Place}
 use Rattle.cl_serial.specs.PlainMap.{Values}
 use Rattle.cl_serial.specs.Serial.{StandsAt, IsIn, IsAnswered, CommittedForMembers, RefusalsTrue, EveryLineAnswered}
-use Rattle.clustra.specs.Kept.{Kept, Served}
-use Rattle.clustra.proofs.Turns.{Kept-idle}
+use Rattle.clustra.specs.Served.{Together, Served}
+use Rattle.clustra.proofs.Turns.{Together-idle}
 use Rattle.clustra.proofs.Pairs.{with_pair, length-with_pair, questions-with_pair, answers-with_pair, faulty_lines-with_pair, refusals-with_pair}
 use Rattle.clustra.proofs.Unaborted.{NeverAborts-refused}
 use Rattle.cl_serial.proofs.SameSession.{session_of-same, commands-same, follow-same, fit-same, answered-same}
@@ -65,14 +65,14 @@ module _ (transcript : List Entry) (number : ℕ) (text : List ℕ) (fault : Lin
   pub Served-refused_line : (history : List TxnId) (values after : Values) (begun : ℕ) (count : Option ℕ) → Served transcript history values begun count → ((place : Place) → after place ≡ values place) →
       Served longer history after begun count
   Served-refused_line history values after begun count h same =
-      let P : Session → Type 0 = λ session. Kept session.ended session.current (length longer) history after begun count in
-      let Q : ℕ → Type 0 = λ size. Kept (session_of 1 transcript).ended (session_of 1 transcript).current size history after begun count in
+      let P : Session → Type 0 = λ session. Together session.ended session.current (length longer) history after begun count in
+      let Q : ℕ → Type 0 = λ size. Together (session_of 1 transcript).ended (session_of 1 transcript).current size history after begun count in
       record {
         paired = ap length (same_questions 1) ∙ h.paired ∙ sym (ap length (same_answers 1));
         unasked = λ session other. same_questions session ∙ h.unasked session other;
         unanswered = λ session other. same_answers session ∙ h.unanswered session other;
         kept = subst P (sym (session_of-same longer transcript 1 (same_questions 1) (same_answers 1))) (subst Q (sym (length-with_pair transcript number text (BadLine number fault)))
-            (Kept-idle (session_of 1 transcript).ended (session_of 1 transcript).current (length transcript) history values after begun count same h.kept));
+            (Together-idle (session_of 1 transcript).ended (session_of 1 transcript).current (length transcript) history values after begun count same h.kept));
         for_members = λ session place at. members_before history h.for_members session place (standing transcript number text (BadLine number fault) place (written (Answer session Committed)) at);
         follow = λ session. follow-same longer transcript session (same_questions session) (same_answers session) h.follow;
         fit_turns = λ session. fit-same longer transcript session (same_questions session) (same_answers session) h.fit_turns;

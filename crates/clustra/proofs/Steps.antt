@@ -14,8 +14,8 @@ use Rattle.cl_types.specs.Places.{Place}
 use Rattle.cl_serial.specs.PlainMap.{Values, operations, updated}
 use Rattle.cl_serial.specs.Serial.{FitsTurn, InTransaction, IsFull}
 use Rattle.clustra.specs.Turn.{turn_outcome, turn_count, turn_begun, turn_values, turn_history, IsAsked}
-use Rattle.clustra.specs.Kept.{count_in, Kept}
-use Rattle.clustra.proofs.Turns.{exchange_at, Kept-idle, Kept-begun, Kept-worked, Kept-committed}
+use Rattle.clustra.specs.Served.{count_in, Together}
+use Rattle.clustra.proofs.Turns.{exchange_at, Together-idle, Together-begun, Together-worked, Together-committed}
 
 -- the session after the command and its outcome
 abbrev pub next : List Transaction → Option Transaction → ℕ → Command → Outcome → Session
@@ -28,39 +28,39 @@ work_turn : (is_full : Bool) (ended : List Transaction) (current : Transaction) 
     let outcome : Outcome = if is_full then Full else Done (plain_reply op (values place)) in
     let new : Session = next ended (Some current) size (Work table key op) outcome in
     let changed : Values = if is_full then values else updated values place (plain_value op (values place)) in
-    ((other : Place) → after other ≡ changed other) → nat_eq n 64 ≡ is_full → Kept ended (Some current) size history values begun (Some n) →
-    Kept new.ended new.current (size + 2) history after begun (if is_full then Some n else Some (n + 1))
+    ((other : Place) → after other ≡ changed other) → nat_eq n 64 ≡ is_full → Together ended (Some current) size history values begun (Some n) →
+    Together new.ended new.current (size + 2) history after begun (if is_full then Some n else Some (n + 1))
 unfolding session_step
-work_turn true ended current size history values after begun count table key op same is h = Kept-idle ended (Some current) size history values after begun (Some (length (operations current.commands))) same h
+work_turn true ended current size history values after begun count table key op same is h = Together-idle ended (Some current) size history values after begun (Some (length (operations current.commands))) same h
 work_turn false ended current size history values after begun count table key op changed is h =
     let differ : length (operations current.commands) ≢ 64 = eqb-false (length (operations current.commands)) 64 is in
-    Kept-worked ended current size history values after begun (Some (length (operations current.commands))) table key op changed (omega (arith, differ, h.at_most)) h
+    Together-worked ended current size history values after begun (Some (length (operations current.commands))) table key op changed (omega (arith, differ, h.at_most)) h
 
 -- one more command and its outcome
 kept_turn : (ended : List Transaction) (current : Option Transaction) (command : Command) (size : ℕ) (history : List TxnId) (values after : Values) (begun : ℕ) →
     let count : Option ℕ = count_in current in
     let new : Session = next ended current size command (turn_outcome count command values) in
-    IsAsked command → ((place : Place) → after place ≡ turn_values count command values place) → Kept ended current size history values begun count →
-    Kept new.ended new.current (size + 2) (turn_history count command begun history) after (turn_begun count command begun) (turn_count count command)
+    IsAsked command → ((place : Place) → after place ≡ turn_values count command values place) → Together ended current size history values begun count →
+    Together new.ended new.current (size + 2) (turn_history count command begun history) after (turn_begun count command begun) (turn_count count command)
 unfolding session_step
-kept_turn ended None Begin size history values after begun asked same h = Kept-begun ended size history values after begun None same h
-kept_turn ended None (Work table key op) size history values after begun asked same h = Kept-idle ended None size history values after begun None same h
-kept_turn ended None Commit size history values after begun asked same h = Kept-idle ended None size history values after begun None same h
+kept_turn ended None Begin size history values after begun asked same h = Together-begun ended size history values after begun None same h
+kept_turn ended None (Work table key op) size history values after begun asked same h = Together-idle ended None size history values after begun None same h
+kept_turn ended None Commit size history values after begun asked same h = Together-idle ended None size history values after begun None same h
 kept_turn ended None Abort size history values after begun asked same h = absurd asked
-kept_turn ended (Some current) Begin size history values after begun asked same h = Kept-idle ended (Some current) size history values after begun (Some (length (operations current.commands))) same h
+kept_turn ended (Some current) Begin size history values after begun asked same h = Together-idle ended (Some current) size history values after begun (Some (length (operations current.commands))) same h
 kept_turn ended (Some current) (Work table key op) size history values after begun asked same h =
     work_turn (nat_eq (length (operations current.commands)) 64) ended current size history values after begun None table key op same refl h
-kept_turn ended (Some current) Commit size history values after begun asked same h = Kept-committed ended current size history values after begun (Some (length (operations current.commands))) same h
+kept_turn ended (Some current) Commit size history values after begun asked same h = Together-committed ended current size history values after begun (Some (length (operations current.commands))) same h
 kept_turn ended (Some current) Abort size history values after begun asked same h = absurd asked
 
 -- the same, for the count that the server keeps
-pub Kept-turn : (ended : List Transaction) (current : Option Transaction) (command : Command) (size : ℕ) (history : List TxnId) (values after : Values) (begun : ℕ) (count : Option ℕ) →
+pub Together-turn : (ended : List Transaction) (current : Option Transaction) (command : Command) (size : ℕ) (history : List TxnId) (values after : Values) (begun : ℕ) (count : Option ℕ) →
     let new : Session = next ended current size command (turn_outcome count command values) in
-    IsAsked command → ((place : Place) → after place ≡ turn_values count command values place) → Kept ended current size history values begun count →
-    Kept new.ended new.current (size + 2) (turn_history count command begun history) after (turn_begun count command begun) (turn_count count command)
-Kept-turn ended current command size history values after begun count asked same h =
-    let P : Option ℕ → Type 0 = λ c. ((place : Place) → after place ≡ turn_values c command values place) → Kept ended current size history values begun c →
-    Kept (next ended current size command (turn_outcome c command values)).ended (next ended current size command (turn_outcome c command values)).current (size + 2)
+    IsAsked command → ((place : Place) → after place ≡ turn_values count command values place) → Together ended current size history values begun count →
+    Together new.ended new.current (size + 2) (turn_history count command begun history) after (turn_begun count command begun) (turn_count count command)
+Together-turn ended current command size history values after begun count asked same h =
+    let P : Option ℕ → Type 0 = λ c. ((place : Place) → after place ≡ turn_values c command values place) → Together ended current size history values begun c →
+    Together (next ended current size command (turn_outcome c command values)).ended (next ended current size command (turn_outcome c command values)).current (size + 2)
     (turn_history c command begun history) after (turn_begun c command begun) (turn_count c command) in
     subst P (sym h.count_is) (kept_turn ended current command size history values after begun asked) same h
 

@@ -15,7 +15,7 @@ use Rattle.cl_serial.specs.Transactions.{Transaction, with_command}
 use Rattle.cl_types.specs.Places.{Place, same_place}
 use Rattle.cl_serial.specs.PlainMap.{Values, Operation, operations, operation_in, no_values, updated, after_operations, RepliesAgree}
 use Rattle.cl_serial.proofs.Replayed.{RepliesAgree-append, RepliesAgree-single, operations-push, after_operations-push}
-use Rattle.clustra.specs.Kept.{names, GoesOn, EndsCommitted, operations_in, done_by, InOrder, Kept}
+use Rattle.clustra.specs.Served.{names, GoesOn, EndsCommitted, operations_in, done_by, InOrder, Together}
 use Rattle.clustra.proofs.Orders.{InOrder-longer, InOrder-begun, InOrder-with_command, begun_at}
 
 -- a command with its answer, both at the transcript's end
@@ -39,9 +39,9 @@ done_by-begun : (ended : List Transaction) (size : ℕ) → done_by (ended ++ be
 done_by-begun ended size = flat_map-append operations_in ended (begun_at size ∷ []) ∙ sym (flat_map-append operations_in ended [])
 
 -- a turn that changes nothing
-pub Kept-idle : (ended : List Transaction) (current : Option Transaction) (size : ℕ) (history : List TxnId) (values after : Values) (begun : ℕ) (count : Option ℕ) →
-    ((place : Place) → after place ≡ values place) → Kept ended current size history values begun count → Kept ended current (size + 2) history after begun count
-Kept-idle ended current size history values after begun count same h = record {
+pub Together-idle : (ended : List Transaction) (current : Option Transaction) (size : ℕ) (history : List TxnId) (values after : Values) (begun : ℕ) (count : Option ℕ) →
+    ((place : Place) → after place ≡ values place) → Together ended current size history values begun count → Together ended current (size + 2) history after begun count
+Together-idle ended current size history values after begun count same h = record {
   history_is = h.history_is;
   begun_is = h.begun_is;
   count_is = h.count_is;
@@ -54,9 +54,9 @@ Kept-idle ended current size history values after begun count same h = record {
 }
 
 -- BEGIN outside a transaction
-pub Kept-begun : (ended : List Transaction) (size : ℕ) (history : List TxnId) (values after : Values) (begun : ℕ) (count : Option ℕ) →
-    ((place : Place) → after place ≡ values place) → Kept ended None size history values begun count → Kept ended (Some (begun_at size)) (size + 2) history after (begun + 1) (Some 0)
-Kept-begun ended size history values after begun count same h = record {
+pub Together-begun : (ended : List Transaction) (size : ℕ) (history : List TxnId) (values after : Values) (begun : ℕ) (count : Option ℕ) →
+    ((place : Place) → after place ≡ values place) → Together ended None size history values begun count → Together ended (Some (begun_at size)) (size + 2) history after (begun + 1) (Some 0)
+Together-begun ended size history values after begun count same h = record {
   history_is = h.history_is;
   begun_is = let e : begun ≡ length ended + 0 = h.begun_is in omega arith;
   count_is = refl;
@@ -77,12 +77,12 @@ updated_agree a b place op other here there =
     ∙ ap (λ value. if same_place place other then plain_value op (b place) else value) there
 
 -- an operation in a transaction
-pub Kept-worked : (ended : List Transaction) (current : Transaction) (size : ℕ) (history : List TxnId) (values after : Values) (begun : ℕ) (count : Option ℕ) (table key : List ℕ) (op : Op) →
+pub Together-worked : (ended : List Transaction) (current : Transaction) (size : ℕ) (history : List TxnId) (values after : Values) (begun : ℕ) (count : Option ℕ) (table key : List ℕ) (op : Op) →
     let place : Place = (table, key) in
     let outcome : Outcome = Done (plain_reply op (values place)) in
-    ((other : Place) → after other ≡ updated values place (plain_value op (values place)) other) → length (operations current.commands) < 64 → Kept ended (Some current) size history values begun count →
-    Kept ended (Some (with_command current (exchange_at size (Work table key op) outcome))) (size + 2) history after begun (Some (length (operations current.commands) + 1))
-Kept-worked ended current size history values after begun count table key op changed room h =
+    ((other : Place) → after other ≡ updated values place (plain_value op (values place)) other) → length (operations current.commands) < 64 → Together ended (Some current) size history values begun count →
+    Together ended (Some (with_command current (exchange_at size (Work table key op) outcome))) (size + 2) history after begun (Some (length (operations current.commands) + 1))
+Together-worked ended current size history values after begun count table key op changed room h =
     let place : Place = (table, key) in
     let outcome : Outcome = Done (plain_reply op (values place)) in
     let one : Exchange = exchange_at size (Work table key op) outcome in
@@ -105,10 +105,10 @@ Kept-worked ended current size history values after begun count table key op cha
     }
 
 -- COMMIT in a transaction
-pub Kept-committed : (ended : List Transaction) (current : Transaction) (size : ℕ) (history : List TxnId) (values after : Values) (begun : ℕ) (count : Option ℕ) →
-    ((place : Place) → after place ≡ values place) → Kept ended (Some current) size history values begun count →
-    Kept (ended ++ with_command current (exchange_at size Commit Committed) ∷ []) None (size + 2) (history ++ record { session = 1; number = begun } ∷ []) after begun None
-Kept-committed ended current size history values after begun count same h =
+pub Together-committed : (ended : List Transaction) (current : Transaction) (size : ℕ) (history : List TxnId) (values after : Values) (begun : ℕ) (count : Option ℕ) →
+    ((place : Place) → after place ≡ values place) → Together ended (Some current) size history values begun count →
+    Together (ended ++ with_command current (exchange_at size Commit Committed) ∷ []) None (size + 2) (history ++ record { session = 1; number = begun } ∷ []) after begun None
+Together-committed ended current size history values after begun count same h =
     let one : Exchange = exchange_at size Commit Committed in
     let whole : List Transaction = ended ++ with_command current one ∷ [] in
     let more : length whole ≡ length ended + 1 = length-append ended (with_command current one ∷ []) in

@@ -1,5 +1,5 @@
 pub mod Input
-pub mod Kept
+pub mod Served
 pub mod Reading
 pub mod Run
 pub mod Server

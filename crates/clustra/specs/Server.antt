@@ -5,7 +5,7 @@ use Rattle.cl_lines.specs.declared.out.Out.{Out}
 use Rattle.cl_serial.specs.Transcript.{fed, written, transcript_of}
 use Rattle.cl_serial.specs.PlainMapModel.{value_at}
 use Rattle.clustra.specs.declared.server.Server.{Server}
-use Rattle.clustra.specs.Kept.{Served}
+use Rattle.clustra.specs.Served.{Served}
 
 -- all that the server has of its lines so far belongs together
 abbrev pub IsServing : Server → Type 0

@@ -6,7 +6,7 @@ use Rattle.cl_types.specs.Places.{Place}
 use Rattle.cl_serial.specs.PlainMap.{Values}
 use Rattle.cl_serial.specs.PlainMapModel.{value_at}
 use Rattle.cl_serial.proofs.PlainMapLemmas.{value_at-empty}
-use Rattle.clustra.specs.Kept.{Served}
+use Rattle.clustra.specs.Served.{Served}
 use Rattle.clustra.proofs.Lines.{Served-start}
 use Rattle.clustra.proofs.server.Server.new.Goals as goal
 

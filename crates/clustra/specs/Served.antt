@@ -61,7 +61,7 @@ AtMost64 None = Unit {0}
 AtMost64 (Some n) = n ≤ 64
 
 -- the session's transactions, the history, the map and the counts belong together
-pub record Kept (ended : List Transaction) (current : Option Transaction) (size : ℕ) (history : List TxnId) (values : Values) (begun : ℕ) (count : Option ℕ) : Type 0 where
+pub record Together (ended : List Transaction) (current : Option Transaction) (size : ℕ) (history : List TxnId) (values : Values) (begun : ℕ) (count : Option ℕ) : Type 0 where
   pub history_is : history ≡ names (length ended)
   pub begun_is : begun ≡ length ended + length (option_to_list current)
   pub count_is : count ≡ count_in current
@@ -77,7 +77,7 @@ pub record Served (transcript : List Entry) (history : List TxnId) (values : Val
   pub paired : length (questions 1 transcript) ≡ length (answers 1 transcript)
   pub unasked : (session : ℕ) → (session ≡ 1 → ⊥) → questions session transcript ≡ []
   pub unanswered : (session : ℕ) → (session ≡ 1 → ⊥) → answers session transcript ≡ []
-  pub kept : Kept (session_of 1 transcript).ended (session_of 1 transcript).current (length transcript) history values begun count
+  pub kept : Together (session_of 1 transcript).ended (session_of 1 transcript).current (length transcript) history values begun count
   pub for_members : CommittedForMembers transcript history
   pub follow : AnswersFollow transcript
   pub fit_turns : AnswersFitTurns transcript
