@@ -102,9 +102,7 @@ impl<'a> Reader<'a> {
             None => Err(WireFault::Field.into()),
         }
     }
-}
 
-impl<'a> Reader<'a> {
     // The length of a value.
     #[tactic(auto, unfolding(crate::specs::Reading::read_value_length))]
     fn value_length(&mut self) -> Result<usize, Undecoded>
@@ -218,9 +216,7 @@ impl<'a> Reader<'a> {
             value: self.image(alloc)?,
         })
     }
-}
 
-impl<'a> Reader<'a> {
     /// The reply to an operation.
     #[tactic(auto, unfolding(crate::specs::Reading::read_reply))]
     pub(crate) fn reply(&mut self, alloc: Global) -> Result<Reply, Undecoded>

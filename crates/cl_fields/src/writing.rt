@@ -157,9 +157,7 @@ impl Writer {
         self.u64(item.number)?;
         self.image(&item.value)
     }
-}
 
-impl Writer {
     // Writes the first fields of a record of a log that has a place.
     fn placed(&mut self, byte: u8, txn: TxnId, table: &TableName, key: &Key) -> Result<(), NoMemory>
         requires txn { IsTxn txn }
@@ -218,9 +216,7 @@ impl Writer {
             LogRec::Decide(txn) => self.unplaced(7, *txn),
         }
     }
-}
 
-impl Writer {
     /// Writes at most four records of a store, behind their number.
     #[tactic(auto, unfolding(crate::specs::Spelling::list_bytes))]
     pub fn items(&mut self, list: &ItemList) -> Result<(), NoMemory>
