@@ -107,6 +107,7 @@ fn a_scan_goes_by_the_hashes_of_keys(rt: HostRuntime) -> Result<(), Fail> {
         let list = scan_after(&store, &t, after, limit)?;
         assert!(rt; are_items(list.as_slice(), &RECORDS[from..to]));
     }
+    assert!(rt; store.live_count() == 1);
     Ok(())
 }
 
