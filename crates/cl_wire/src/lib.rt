@@ -8,8 +8,6 @@ mod kind;
 mod laws;
 mod limits;
 mod packet;
-#[cfg(test)]
-mod tests;
 
 pub use cl_fields::{Undecoded, WireFault};
 pub use decoding::decode;

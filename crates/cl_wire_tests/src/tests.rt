@@ -1,7 +1,7 @@
 //! Worked packets, with bytes from outside the program.
-use crate::*;
 use cl_log::{Form, LogRec};
 use cl_types::{AbortCause, Answer, Command, Key, NoMemory, Op, Outcome, Reply, TableName, TxnId};
+use cl_wire::*;
 use std::alloc::{AllocError, Global};
 use std::process::Abort;
 use std::test::Fail;
