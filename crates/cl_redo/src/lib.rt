@@ -4,8 +4,6 @@
 mod laws;
 mod redone;
 mod taking;
-#[cfg(test)]
-mod tests;
 mod write;
 
 pub use laws::{taking_gives_store_and_locks, taking_on_a_copy};

@@ -9,9 +9,9 @@ ghost use Rattle.cl_locks.specs.Table.{held};
 ghost use Rattle.cl_store.specs.Store.{stored};
 ghost use Rattle.cl_redo.specs.Condition.{MeetsWrite};
 
-use crate::{Redone, reserve, take};
 use cl_locks::{Locks, Mode};
 use cl_log::{Form, Log, LogRec};
+use cl_redo::{Redone, reserve, take};
 use cl_store::Store;
 use cl_types::{Key, NoMemory, TableName, TxnId, Value};
 use std::alloc::Global;

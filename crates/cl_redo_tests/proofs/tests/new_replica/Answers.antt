@@ -3,8 +3,8 @@ use Rattle.cl_log.specs.Entry.{Entry}
 use Rattle.cl_log.specs.Open.{has_ended}
 use Rattle.cl_log.proofs.Open.{has_ended-nil}
 use Rattle.cl_locks.proofs.TableLaws.{held-new}
-use Rattle.cl_redo.specs.declared.tests.TheConstants.{TXN}
-use Rattle.cl_redo.proofs.tests.new_replica.Goals as goal
+use Rattle.cl_redo_tests.specs.declared.tests.TheConstants.{TXN}
+use Rattle.cl_redo_tests.proofs.tests.new_replica.Goals as goal
 
 pub returns-clause-running : goal.returns-clause-running
 returns-clause-running c = ap (λ (es : List Entry). has_ended es TXN) c.new-2.ensures.entries ∙ has_ended-nil TXN

@@ -7,8 +7,8 @@ use Rattle.cl_log.specs.Log.{entries}
 use Rattle.cl_log.specs.Open.{has_ended}
 use Rattle.cl_log.proofs.LogWords.{one-le-next_number}
 use Rattle.cl_log.proofs.Open.{has_ended_push-own}
-use Rattle.cl_redo.specs.declared.tests.TheConstants.{TXN}
-use Rattle.cl_redo.proofs.tests.take_next.Goals as goal
+use Rattle.cl_redo_tests.specs.declared.tests.TheConstants.{TXN}
+use Rattle.cl_redo_tests.proofs.tests.take_next.Goals as goal
 
 pub take-requires-clause-number : goal.take-requires-clause-number
 take-requires-clause-number g c =
