@@ -304,5 +304,5 @@ Gives view (Err (undecoded.Fault fault)) left read = read ≡ Err fault
 Gives view (Err undecoded.NoMemory) left read = Unit {0}
 
 -- the same where what is read is pure data
-abbrev pub Reads : {X : Type 0} → Result X Undecoded → List ℕ → Read X → Type 0
-Reads result left read = Gives (λ found. found) result left read
+abbrev pub ReadsField : {X : Type 0} → Result X Undecoded → List ℕ → Read X → Type 0
+ReadsField result left read = Gives (λ found. found) result left read

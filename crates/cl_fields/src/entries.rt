@@ -1,5 +1,5 @@
 //! Reading records of logs.
-ghost use Rattle.cl_fields.specs.Reading.{Reads, read_touch, read_set, read_add, read_comp, read_end, read_entry};
+ghost use Rattle.cl_fields.specs.Reading.{ReadsField, read_touch, read_set, read_add, read_comp, read_end, read_entry};
 
 use crate::WireFault;
 use crate::reader::Reader;
@@ -10,14 +10,14 @@ use std::alloc::Global;
 impl<'a> Reader<'a> {
     #[tactic(auto, unfolding(crate::specs::Reading::read_touch))]
     fn touch(&mut self) -> Result<LogRec, Undecoded>
-        ensures { Reads result self.new (read_touch self.old) }
+        ensures { ReadsField result self.new (read_touch self.old) }
     {
         Ok(LogRec::Touch(self.txn()?, self.table()?, self.key()?, self.mode()?))
     }
 
     #[tactic(auto, unfolding(crate::specs::Reading::read_set))]
     fn set(&mut self, alloc: Global) -> Result<LogRec, Undecoded>
-        ensures { Reads result self.new (read_set self.old) }
+        ensures { ReadsField result self.new (read_set self.old) }
     {
         Ok(LogRec::Set(
             self.txn()?,
@@ -31,7 +31,7 @@ impl<'a> Reader<'a> {
 
     #[tactic(auto, unfolding(crate::specs::Reading::read_add))]
     fn add(&mut self) -> Result<LogRec, Undecoded>
-        ensures { Reads result self.new (read_add self.old) }
+        ensures { ReadsField result self.new (read_add self.old) }
     {
         Ok(LogRec::Add(
             self.txn()?,
@@ -44,7 +44,7 @@ impl<'a> Reader<'a> {
 
     #[tactic(auto, unfolding(crate::specs::Reading::read_comp))]
     fn comp(&mut self, alloc: Global) -> Result<LogRec, Undecoded>
-        ensures { Reads result self.new (read_comp self.old) }
+        ensures { ReadsField result self.new (read_comp self.old) }
     {
         Ok(LogRec::Comp(
             self.txn()?,
@@ -58,7 +58,7 @@ impl<'a> Reader<'a> {
 
     #[tactic(auto, unfolding(crate::specs::Reading::read_end))]
     fn end(&mut self) -> Result<LogRec, Undecoded>
-        ensures { Reads result self.new (read_end self.old) }
+        ensures { ReadsField result self.new (read_end self.old) }
     {
         Ok(LogRec::End(self.txn()?, self.flag()?))
     }
@@ -66,7 +66,7 @@ impl<'a> Reader<'a> {
     /// A record of a log.
     #[tactic(auto, unfolding(crate::specs::Reading::read_entry))]
     pub fn entry(&mut self, alloc: Global) -> Result<LogRec, Undecoded>
-        ensures { Reads result self.new (read_entry self.old) }
+        ensures { ReadsField result self.new (read_entry self.old) }
     {
         match self.byte()? {
             1 => self.touch(),

@@ -1,6 +1,6 @@
 //! Reading the fields of packets.
 ghost use Rattle.std.specs.Prelude.{◌≡◌};
-ghost use Rattle.cl_fields.specs.Reading.{Gives, Reads, read_actor, read_node, read_virtual_node, read_place, read_mode, read_txn, read_text, read_table, read_key, read_value_length, read_value, read_image, read_form, read_operand, read_work, read_op, read_command, read_reply, read_cause, read_outcome, read_answer, read_item};
+ghost use Rattle.cl_fields.specs.Reading.{Gives, ReadsField, read_actor, read_node, read_virtual_node, read_place, read_mode, read_txn, read_text, read_table, read_key, read_value_length, read_value, read_image, read_form, read_operand, read_work, read_op, read_command, read_reply, read_cause, read_outcome, read_answer, read_item};
 
 use crate::WireFault;
 use crate::limits::{ACTOR_MAX, NODE_MAX, PLACE_MAX, SESSION_MAX, VIRTUAL_NODE_MAX};
@@ -16,14 +16,14 @@ use std::alloc::Global;
 impl<'a> Reader<'a> {
     /// An actor: a node, or the front, 0 to 16.
     pub fn actor(&mut self) -> Result<u32, Undecoded>
-        ensures { Reads result self.new (read_actor self.old) }
+        ensures { ReadsField result self.new (read_actor self.old) }
     {
         self.between(0, ACTOR_MAX)
     }
 
     /// A virtual node, 0 to 7.
     pub fn virtual_node(&mut self) -> Result<u32, Undecoded>
-        ensures { Reads result self.new (read_virtual_node self.old) }
+        ensures { ReadsField result self.new (read_virtual_node self.old) }
     {
         self.between(0, VIRTUAL_NODE_MAX)
     }
@@ -31,7 +31,7 @@ impl<'a> Reader<'a> {
     /// The place of a command in its transaction, 0 to 65.
     #[tactic(auto, unfolding(crate::specs::Reading::read_place))]
     pub fn place(&mut self) -> Result<u32, Undecoded>
-        ensures { Reads result self.new (read_place self.old) }
+        ensures { ReadsField result self.new (read_place self.old) }
     {
         let place = self.u32()?;
         if place <= PLACE_MAX {
@@ -43,7 +43,7 @@ impl<'a> Reader<'a> {
 
     /// A node, 0 to 15.
     pub fn node(&mut self) -> Result<u32, Undecoded>
-        ensures { Reads result self.new (read_node self.old) }
+        ensures { ReadsField result self.new (read_node self.old) }
     {
         self.between(0, NODE_MAX)
     }
@@ -51,7 +51,7 @@ impl<'a> Reader<'a> {
     /// The mode of a lock.
     #[tactic(auto, unfolding(crate::specs::Reading::read_mode))]
     pub(crate) fn mode(&mut self) -> Result<Mode, Undecoded>
-        ensures { Reads result self.new (read_mode self.old) }
+        ensures { ReadsField result self.new (read_mode self.old) }
     {
         match self.byte()? {
             1 => Ok(Mode::Shared),
@@ -63,7 +63,7 @@ impl<'a> Reader<'a> {
     /// The name of a transaction: a session, 1 to 64, and a number, at least 1.
     #[tactic(auto, unfolding(crate::specs::Reading::read_txn))]
     pub fn txn(&mut self) -> Result<TxnId, Undecoded>
-        ensures { Reads result self.new (read_txn self.old) }
+        ensures { ReadsField result self.new (read_txn self.old) }
     {
         let session = self.between(1, SESSION_MAX)?;
         let number = self.number()?;
@@ -82,7 +82,7 @@ impl<'a> Reader<'a> {
     /// The name of a table.
     #[tactic(auto, unfolding(crate::specs::Reading::read_table))]
     pub(crate) fn table(&mut self) -> Result<TableName, Undecoded>
-        ensures { Reads result self.new (read_table self.old) }
+        ensures { ReadsField result self.new (read_table self.old) }
     {
         let text = self.text()?;
         match TableName::read(text) {
@@ -94,7 +94,7 @@ impl<'a> Reader<'a> {
     /// A key.
     #[tactic(auto, unfolding(crate::specs::Reading::read_key))]
     pub(crate) fn key(&mut self) -> Result<Key, Undecoded>
-        ensures { Reads result self.new (read_key self.old) }
+        ensures { ReadsField result self.new (read_key self.old) }
     {
         let text = self.text()?;
         match Key::read(text) {
@@ -106,7 +106,7 @@ impl<'a> Reader<'a> {
     // The length of a value.
     #[tactic(auto, unfolding(crate::specs::Reading::read_value_length))]
     fn value_length(&mut self) -> Result<usize, Undecoded>
-        ensures { Reads result self.new (read_value_length self.old) }
+        ensures { ReadsField result self.new (read_value_length self.old) }
     {
         let count = usize::from(self.u16()?);
         if 1 <= count && count <= VALUE_MAX {
@@ -119,7 +119,7 @@ impl<'a> Reader<'a> {
     /// A value.
     #[tactic(auto, unfolding(crate::specs::Reading::read_value))]
     pub(crate) fn value(&mut self, alloc: Global) -> Result<Value, Undecoded>
-        ensures { Reads result self.new (read_value self.old) }
+        ensures { ReadsField result self.new (read_value self.old) }
     {
         let count = self.value_length()?;
         let text = self.bytes(count)?;
@@ -132,7 +132,7 @@ impl<'a> Reader<'a> {
     /// A value, or nothing.
     #[tactic(auto, unfolding(crate::specs::Reading::read_image))]
     pub(crate) fn image(&mut self, alloc: Global) -> Result<Option<Value>, Undecoded>
-        ensures { Reads result self.new (read_image self.old) }
+        ensures { ReadsField result self.new (read_image self.old) }
     {
         if self.flag()? {
             Ok(Some(self.value(alloc)?))
@@ -144,7 +144,7 @@ impl<'a> Reader<'a> {
     /// What a compensation does.
     #[tactic(auto, unfolding(crate::specs::Reading::read_form))]
     pub(crate) fn form(&mut self, alloc: Global) -> Result<Form, Undecoded>
-        ensures { Reads result self.new (read_form self.old) }
+        ensures { ReadsField result self.new (read_form self.old) }
     {
         if self.flag()? {
             Ok(Form::Amount(self.amount()?))
@@ -156,7 +156,7 @@ impl<'a> Reader<'a> {
     // What stands after the key of an operation with this byte.
     #[tactic(auto, unfolding(crate::specs::Reading::read_operand))]
     fn operand(&mut self, alloc: Global, byte: u32) -> Result<Op, Undecoded>
-        ensures { Reads result self.new (read_operand byte self.old) }
+        ensures { ReadsField result self.new (read_operand byte self.old) }
     {
         match byte {
             1 => Ok(Op::Get),
@@ -170,7 +170,7 @@ impl<'a> Reader<'a> {
     // An operation on a record, after its byte.
     #[tactic(auto, unfolding(crate::specs::Reading::read_work))]
     fn work(&mut self, alloc: Global, byte: u32) -> Result<(TableName, Key, Op), Undecoded>
-        ensures { Reads result self.new (read_work byte self.old) }
+        ensures { ReadsField result self.new (read_work byte self.old) }
     {
         let table = self.table()?;
         let key = self.key()?;
@@ -181,7 +181,7 @@ impl<'a> Reader<'a> {
     /// An operation on a record: a table, a key, and what is done there.
     #[tactic(auto, unfolding(crate::specs::Reading::read_op))]
     pub fn op(&mut self, alloc: Global) -> Result<(TableName, Key, Op), Undecoded>
-        ensures { Reads result self.new (read_op self.old) }
+        ensures { ReadsField result self.new (read_op self.old) }
     {
         let byte = self.between(1, 4)?;
         self.work(alloc, byte)
@@ -190,7 +190,7 @@ impl<'a> Reader<'a> {
     /// A client's command.
     #[tactic(auto, unfolding(crate::specs::Reading::read_command))]
     pub fn command(&mut self, alloc: Global) -> Result<Command, Undecoded>
-        ensures { Reads result self.new (read_command self.old) }
+        ensures { ReadsField result self.new (read_command self.old) }
     {
         match self.byte()? {
             0 => Ok(Command::Begin),
@@ -207,7 +207,7 @@ impl<'a> Reader<'a> {
     /// A record of a store.
     #[tactic(auto, unfolding(crate::specs::Reading::read_item))]
     pub(crate) fn item(&mut self, alloc: Global) -> Result<Item, Undecoded>
-        ensures { Reads result self.new (read_item self.old) }
+        ensures { ReadsField result self.new (read_item self.old) }
     {
         Ok(Item {
             table: self.table()?,
@@ -220,7 +220,7 @@ impl<'a> Reader<'a> {
     /// The reply to an operation.
     #[tactic(auto, unfolding(crate::specs::Reading::read_reply))]
     pub(crate) fn reply(&mut self, alloc: Global) -> Result<Reply, Undecoded>
-        ensures { Reads result self.new (read_reply self.old) }
+        ensures { ReadsField result self.new (read_reply self.old) }
     {
         match self.byte()? {
             0 => Ok(Reply::Stored),
@@ -236,7 +236,7 @@ impl<'a> Reader<'a> {
     // Why a transaction was aborted.
     #[tactic(auto, unfolding(crate::specs::Reading::read_cause))]
     fn cause(&mut self) -> Result<AbortCause, Undecoded>
-        ensures { Reads result self.new (read_cause self.old) }
+        ensures { ReadsField result self.new (read_cause self.old) }
     {
         match self.byte()? {
             0 => Ok(AbortCause::Conflict(self.txn()?)),
@@ -250,7 +250,7 @@ impl<'a> Reader<'a> {
     /// The outcome of a command that goes to a controller.
     #[tactic(auto, unfolding(crate::specs::Reading::read_outcome))]
     pub fn outcome(&mut self, alloc: Global) -> Result<Outcome, Undecoded>
-        ensures { Reads result self.new (read_outcome self.old) }
+        ensures { ReadsField result self.new (read_outcome self.old) }
     {
         match self.byte()? {
             0 => Ok(Outcome::Done(self.reply(alloc)?)),
@@ -264,7 +264,7 @@ impl<'a> Reader<'a> {
     /// A participant's answer.
     #[tactic(auto, unfolding(crate::specs::Reading::read_answer))]
     pub fn answer(&mut self, alloc: Global) -> Result<Answer, Undecoded>
-        ensures { Reads result self.new (read_answer self.old) }
+        ensures { ReadsField result self.new (read_answer self.old) }
     {
         match self.byte()? {
             0 => Ok(Answer::Done(self.reply(alloc)?)),

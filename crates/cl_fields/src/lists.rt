@@ -1,6 +1,6 @@
 //! Reading the lists of packets.
 ghost use Rattle.cl_types.specs.GrowingList.{items};
-ghost use Rattle.cl_fields.specs.Reading.{Gives, Reads, read_between, read_list, read_members, read_item, read_txn};
+ghost use Rattle.cl_fields.specs.Reading.{Gives, ReadsField, read_between, read_list, read_members, read_item, read_txn};
 
 use crate::limits::LIST_MAX;
 use crate::reader::Reader;
@@ -12,7 +12,7 @@ use std::alloc::Global;
 impl<'a> Reader<'a> {
     // How many members a list has.
     fn count(&mut self) -> Result<u32, Undecoded>
-        ensures { Reads result self.new (read_between 0 4 self.old) }
+        ensures { ReadsField result self.new (read_between 0 4 self.old) }
     {
         self.between(0, LIST_MAX)
     }

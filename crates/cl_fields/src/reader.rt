@@ -1,7 +1,7 @@
 //! Reading numbers and bytes from the left.
 ghost use Rattle.std.specs.Prelude.{◌≡◌, ◌==◌, length, IfOk};
 ghost use Rattle.std.specs.Int.{w16, w32, w64};
-ghost use Rattle.cl_fields.specs.Reading.{Gives, Reads, read_byte, read_bytes, read_between, read_number, read_positive, read_amount, read_flag};
+ghost use Rattle.cl_fields.specs.Reading.{Gives, ReadsField, read_byte, read_bytes, read_between, read_number, read_positive, read_amount, read_flag};
 
 use crate::{Undecoded, WireFault};
 use std::marker::Model;
@@ -43,7 +43,7 @@ impl<'a> Reader<'a> {
     /// The next byte.
     #[tactic(auto, unfolding(crate::specs::Reading::read_byte))]
     pub fn byte(&mut self) -> Result<u8, Undecoded>
-        ensures { Reads result self.new (read_byte self.old) }
+        ensures { ReadsField result self.new (read_byte self.old) }
     {
         match self.left {
             [] => Err(WireFault::Short.into()),
@@ -72,7 +72,7 @@ impl<'a> Reader<'a> {
     /// A byte from `low` to `high`, both of them in the range.
     #[tactic(auto, unfolding(crate::specs::Reading::read_between))]
     pub fn between(&mut self, low: u8, high: u8) -> Result<u32, Undecoded>
-        ensures { Reads result self.new (read_between low high self.old) }
+        ensures { ReadsField result self.new (read_between low high self.old) }
     {
         let byte = self.byte()?;
         if low <= byte && byte <= high {
@@ -85,7 +85,7 @@ impl<'a> Reader<'a> {
     /// A number of two bytes.
     #[tactic(auto, unfolding(crate::specs::Reading::read_number))]
     pub(crate) fn u16(&mut self) -> Result<u16, Undecoded>
-        ensures { Reads result self.new (read_number w16 self.old) }
+        ensures { ReadsField result self.new (read_number w16 self.old) }
     {
         let bytes = self.bytes(2)?;
         Ok(u16::from_be_bytes([bytes[0], bytes[1]]))
@@ -94,7 +94,7 @@ impl<'a> Reader<'a> {
     /// A number of four bytes, any.
     #[tactic(auto, unfolding(crate::specs::Reading::read_number))]
     pub fn u32(&mut self) -> Result<u32, Undecoded>
-        ensures { Reads result self.new (read_number w32 self.old) }
+        ensures { ReadsField result self.new (read_number w32 self.old) }
     {
         let bytes = self.bytes(4)?;
         Ok(u32::from_be_bytes([bytes[0], bytes[1], bytes[2], bytes[3]]))
@@ -103,7 +103,7 @@ impl<'a> Reader<'a> {
     /// A number of eight bytes, any.
     #[tactic(auto, unfolding(crate::specs::Reading::read_number))]
     pub fn u64(&mut self) -> Result<u64, Undecoded>
-        ensures { Reads result self.new (read_number w64 self.old) }
+        ensures { ReadsField result self.new (read_number w64 self.old) }
     {
         let bytes = self.bytes(8)?;
         Ok(u64::from_be_bytes([
@@ -114,7 +114,7 @@ impl<'a> Reader<'a> {
     /// A number of four bytes that is at least 1.
     #[tactic(auto, unfolding(crate::specs::Reading::read_positive))]
     pub fn index(&mut self) -> Result<u32, Undecoded>
-        ensures { Reads result self.new (read_positive w32 self.old) }
+        ensures { ReadsField result self.new (read_positive w32 self.old) }
     {
         let index = self.u32()?;
         if index == 0 {
@@ -126,7 +126,7 @@ impl<'a> Reader<'a> {
     /// A number of eight bytes that is at least 1.
     #[tactic(auto, unfolding(crate::specs::Reading::read_positive))]
     pub fn number(&mut self) -> Result<u64, Undecoded>
-        ensures { Reads result self.new (read_positive w64 self.old) }
+        ensures { ReadsField result self.new (read_positive w64 self.old) }
     {
         let number = self.u64()?;
         if number == 0 {
@@ -138,7 +138,7 @@ impl<'a> Reader<'a> {
     /// A number of eight bytes in two's complement.
     #[tactic(auto, unfolding(crate::specs::Reading::read_amount))]
     pub(crate) fn amount(&mut self) -> Result<i64, Undecoded>
-        ensures { Reads result self.new (read_amount self.old) }
+        ensures { ReadsField result self.new (read_amount self.old) }
     {
         Ok(self.u64()?.cast_signed())
     }
@@ -146,7 +146,7 @@ impl<'a> Reader<'a> {
     /// A byte that is 0 or 1.
     #[tactic(auto, unfolding(crate::specs::Reading::read_flag))]
     pub fn flag(&mut self) -> Result<bool, Undecoded>
-        ensures { Reads result self.new (read_flag self.old) }
+        ensures { ReadsField result self.new (read_flag self.old) }
     {
         match self.byte()? {
             0 => Ok(false),

@@ -21,14 +21,14 @@ pub trait Sink {
         ensures within { IfOk result (λ n. n ≤ length piece.now) }
         ensures taken { IfOk result (λ n. written self.new ≡ append_known (written self.old) (take n piece.now)) }
         ensures none { IfOk result (λ n. n ≡ 0 → 0 < length piece.now → Rose (faults self.old) (faults self.new)) }
-        ensures kept { OnErr result (written self.new ≡ written self.old) }
+        ensures unchanged { OnErr result (written self.new ≡ written self.old) }
         ensures fault { OnErr result (Rose (faults self.old) (faults self.new)) }
         ensures counted { faults self.old ≤ faults self.new };
 
     /// Brings what was written to its end.
     fn flush(&mut self) -> Result<(), Failed>
         ensures flushed { OnOk result (flushed self.new ≡ written self.new) }
-        ensures kept { written self.new ≡ written self.old }
+        ensures unchanged { written self.new ≡ written self.old }
         ensures fault { OnErr result (Rose (faults self.old) (faults self.new)) }
         ensures counted { faults self.old ≤ faults self.new };
 }

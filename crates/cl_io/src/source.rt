@@ -20,7 +20,7 @@ pub trait Source {
         ensures size { length buf.new ≡ length buf.old }
         ensures given { IfOk result (λ n. left self.old ≡ prepend_known (take n buf.new) (left self.new)) }
         ensures end { IfOk result (λ n. n ≡ 0 → 0 < length buf.old → IsAtEnd (left self.new)) }
-        ensures kept { OnErr result (left self.new ≡ left self.old) }
+        ensures unchanged { OnErr result (left self.new ≡ left self.old) }
         ensures fault { OnErr result (Rose (faults self.old) (faults self.new)) }
         ensures counted { faults self.old ≤ faults self.new };
 }

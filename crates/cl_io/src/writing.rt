@@ -27,7 +27,7 @@ fn write_some<K: Sink>(sink: &mut K, piece: &[u8]) -> Result<usize, Failed>
     ensures some { IfOk result (λ n. 0 < n) }
     ensures within { IfOk result (λ n. n ≤ length piece.now) }
     ensures taken { IfOk result (λ n. K.written sink.new ≡ append_known (K.written sink.old) (take n piece.now)) }
-    ensures kept { OnErr result (K.written sink.new ≡ K.written sink.old) }
+    ensures unchanged { OnErr result (K.written sink.new ≡ K.written sink.old) }
     ensures fault { OnErr result (Rose (K.faults sink.old) (K.faults sink.new)) }
     ensures counted { K.faults sink.old ≤ K.faults sink.new }
 {

@@ -15,7 +15,7 @@ use Rattle.cl_lines.specs.declared.line.Line.{Line}
 use Rattle.cl_lines.specs.declared.line.Line.TheVariants.{Client}
 use Rattle.cl_lines.specs.declared.line.LineFault.{LineFault}
 use Rattle.cl_lines.specs.declared.line.LineFault.TheVariants.{Words}
-use Rattle.cl_lines.specs.Line.{session_of, command_of, in_session, line_of_words, line_of}
+use Rattle.cl_lines.specs.Line.{session_number, command_of, in_session, line_of_words, line_of}
 use Rattle.cl_lines.specs.Words.{words}
 use Rattle.cl_lines.specs.Spelling.{command_words, spelling}
 use Rattle.cl_lines.specs.Laws.{IsAskable, Spells}
@@ -98,7 +98,7 @@ spelling_one command = ap (λ (word : List ℕ). join_with_byte 32 (word ∷ com
 spells_from_words : (bytes : List ℕ) (ws : List (List ℕ)) (session : ℕ) (command : Command) → length bytes ≤ 256 → words bytes ≡ ws → line_of_words ws ≡ Ok (Client session command) → Spells bytes session command
 spells_from_words bytes [] session command within cut e = absurd cc
 spells_from_words bytes (first ∷ others) session command within cut e =
-    let parts = parts_from_line (session_of first) (command_of others) session command e in
+    let parts = parts_from_line (session_number first) (command_of others) session command e in
     let one = session_chosen (bytes_eq first (codes "1")) session parts.session_is in
     let forms = forms_from_reading others command parts.command_is in
     let all_words : words bytes ≡ codes "1" ∷ command_words command =

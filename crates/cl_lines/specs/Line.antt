@@ -15,8 +15,8 @@ use Rattle.cl_lines.specs.declared.line.Unread.TheVariants.{Fault, NoMemory}
 use Rattle.cl_lines.specs.Words.{words}
 
 -- the session that a word names
-abbrev pub session_of : List ℕ → Result ℕ LineFault
-session_of word = if bytes_eq word (codes "1") then Ok 1 else Err Words
+abbrev pub session_number : List ℕ → Result ℕ LineFault
+session_number word = if bytes_eq word (codes "1") then Ok 1 else Err Words
 
 -- the write of the value that a word is
 abbrev pub put_of : List ℕ → Result Op LineFault
@@ -51,7 +51,7 @@ in_session (Err fault) command = Err fault
 -- the line of these words
 abbrev pub line_of_words : List (List ℕ) → Result Line LineFault
 line_of_words [] = Err Words
-line_of_words (session ∷ others) = in_session (session_of session) (command_of others)
+line_of_words (session ∷ others) = in_session (session_number session) (command_of others)
 
 -- the line that the bytes are, or their fault
 unfoldable pub line_of : List ℕ → Result Line LineFault
@@ -76,7 +76,7 @@ abbrev pub fault_of : List ℕ → Option LineFault
 fault_of bytes = fault_part (line_of bytes)
 
 -- a reader answered what this reading is, or that memory is wanting
-abbrev pub Reads : {A : Type 0} → Result A Unread → Result A LineFault → Type 0
-Reads (Ok value) reading = reading ≡ Ok value
-Reads (Err (Fault fault)) reading = reading ≡ Err fault
-Reads (Err NoMemory) reading = Unit {0}
+abbrev pub ReadsLine : {A : Type 0} → Result A Unread → Result A LineFault → Type 0
+ReadsLine (Ok value) reading = reading ≡ Ok value
+ReadsLine (Err (Fault fault)) reading = reading ≡ Err fault
+ReadsLine (Err NoMemory) reading = Unit {0}

@@ -1,6 +1,6 @@
 //! Reading a line.
 ghost use Rattle.std.specs.Prelude.{◌≡◌, [], ◌∷◌, if◌then◌else◌, Ok, Err};
-ghost use Rattle.cl_lines.specs.Line.{Reads, session_of, command_of, line_of};
+ghost use Rattle.cl_lines.specs.Line.{ReadsLine, session_number, command_of, line_of};
 
 use crate::words::Words;
 use crate::{Command, LINE_MAX, Line, LineFault, Unread};
@@ -16,7 +16,7 @@ fn no_form<T>() -> Result<T, Unread>
 
 // The session that a word names.
 fn read_session(word: &[u8]) -> Result<u32, Unread>
-    ensures { Reads result (session_of word.now) }
+    ensures { ReadsLine result (session_number word.now) }
 {
     if word == b"1".as_slice() {
         Ok(1)
@@ -28,7 +28,7 @@ fn read_session(word: &[u8]) -> Result<u32, Unread>
 // The command of one word.
 #[tactic(auto, unfolding(crate::specs::Line::command_of))]
 fn read_bare(verb: &[u8]) -> Result<Command, Unread>
-    ensures { Reads result (command_of (verb.now ∷ [])) }
+    ensures { ReadsLine result (command_of (verb.now ∷ [])) }
 {
     if verb == b"BEGIN".as_slice() {
         Ok(Command::Begin)
@@ -42,7 +42,7 @@ fn read_bare(verb: &[u8]) -> Result<Command, Unread>
 // The command on a record, without a value.
 #[tactic(auto, unfolding(crate::specs::Line::command_of))]
 fn read_get(verb: &[u8], table: &[u8], key: &[u8]) -> Result<Command, Unread>
-    ensures { Reads result (command_of (verb.now ∷ table.now ∷ key.now ∷ [])) }
+    ensures { ReadsLine result (command_of (verb.now ∷ table.now ∷ key.now ∷ [])) }
 {
     if verb != b"GET".as_slice() {
         return no_form();
@@ -62,7 +62,7 @@ fn read_put(
     key: &[u8],
     value: &[u8],
 ) -> Result<Command, Unread>
-    ensures { Reads result (command_of (verb.now ∷ table.now ∷ key.now ∷ value.now ∷ [])) }
+    ensures { ReadsLine result (command_of (verb.now ∷ table.now ∷ key.now ∷ value.now ∷ [])) }
 {
     if verb != b"PUT".as_slice() {
         return no_form();
@@ -80,7 +80,7 @@ fn read_put(
 // The command of the words after the session.
 #[tactic(auto, unfolding(crate::specs::Line::command_of))]
 fn read_command(alloc: Global, mut words: Words<'_>) -> Result<Command, Unread>
-    ensures { Reads result (command_of words.entry) }
+    ensures { ReadsLine result (command_of words.entry) }
 {
     let Some(verb) = words.next() else {
         return no_form();
@@ -100,12 +100,12 @@ fn read_command(alloc: Global, mut words: Words<'_>) -> Result<Command, Unread>
     read_put(alloc, verb, table, key, value)
 }
 
-/// Reads a line, given without its newline. By the form of its code it takes memory for the value of a PUT alone,
+/// ReadsLine a line, given without its newline. By the form of its code it takes memory for the value of a PUT alone,
 /// and time in proportion to the line; no contract speaks of either.
 #[tactic(auto, unfolding(crate::specs::Line::line_of))]
 pub fn read_line(alloc: Global, text: &[u8]) -> Result<Line, Unread>
     // The line that the bytes are, or the fault that they have; want of memory may come at any line.
-    ensures { Reads result (line_of text.now) }
+    ensures { ReadsLine result (line_of text.now) }
 {
     if LINE_MAX < text.len() {
         return no_form();

@@ -6,14 +6,14 @@ use Rattle.std.proofs.Math.Numerals.{add-one}
 use Rattle.std.specs.Vec.{with_items}
 use Rattle.cl_lists.specs.declared.slots.Side.{Side}
 use Rattle.cl_lists.specs.declared.slots.Side.TheVariants.{X, Y}
-use Rattle.cl_lists.specs.declared.slots.Entry.{Entry}
+use Rattle.cl_lists.specs.declared.slots.LinkedSlot.{LinkedSlot}
 use Rattle.cl_lists.specs.declared.slots.Content.{Content}
 use Rattle.cl_lists.specs.declared.slots.Content.TheVariants.{Item, Free}
 use Rattle.cl_lists.specs.declared.arena.Arena.{Arena}
 use Rattle.cl_lists.specs.Links.{no_link}
 use Rattle.cl_lists.specs.Entries.{links_on, contents, items, item_of, used, frees, free_count, lists_on_side}
 use Rattle.cl_lists.specs.FreeList.{is_free_list}
-use Rattle.cl_lists.specs.Arena.{lists_on, item_at, IsInUse, spare_slots, Updates, IsUnchanged}
+use Rattle.cl_lists.specs.Arena.{lists_on, item_at, IsInUse, free_slots, Updates, IsUnchanged}
 use Rattle.cl_lists.proofs.ArenaFacts.{ends_on, lists_on-is, are_linked, used-in_use, inside-in_use, frees-in_use}
 use Rattle.cl_lists.proofs.ContentFacts.{items-written, frees-written, free_count-filled, free_count-freed, items-added, frees-added, free_count-added}
 use Rattle.cl_lists.proofs.EntryWrites.{inside-frees}
@@ -43,9 +43,9 @@ module _ {T : Type 0} where
   first_free-none arena none =
       is_free_list-none (frees arena.slots.items) arena.free_count (subst (λ p. is_free_list (frees arena.slots.items) arena.free_count p ≡ true) none arena.free_linked)
 
-  pub spare_slots-is : (arena : Arena T) → spare_slots arena ≡ arena.free_count
-  unfolding spare_slots
-  spare_slots-is arena = sym arena.free_counted
+  pub free_slots-is : (arena : Arena T) → free_slots arena ≡ arena.free_count
+  unfolding free_slots
+  free_slots-is arena = sym arena.free_counted
 
   module _ (arena : Arena T) (slot : ℕ) (first : arena.first_free ≡ Some slot) where
     pub is_free-first : IsSome (get_or (frees arena.slots.items) slot None)
@@ -59,7 +59,7 @@ module _ {T : Type 0} where
 
   -- ---- the first free slot is filled, behind the vector's slice
 
-  module _ (arena : Arena T) (slot : ℕ) (first : arena.first_free ≡ Some slot) (seen new : List (Entry T)) (item : T) (is_seen : seen ≡ arena.slots.items) (fits : length new ≡ arena.slots.len) (written : contents new ≡ set (contents seen) slot (Item item)) where
+  module _ (arena : Arena T) (slot : ℕ) (first : arena.first_free ≡ Some slot) (seen new : List (LinkedSlot T)) (item : T) (is_seen : seen ≡ arena.slots.items) (fits : length new ≡ arena.slots.len) (written : contents new ≡ set (contents seen) slot (Item item)) where
     pub contents-filled : contents (with_items arena.slots new).items ≡ set (contents arena.slots.items) slot (Item item)
     contents-filled = ap contents (with_items_is arena.slots new fits) ∙ written ∙ ap (λ all. set (contents all) slot (Item item)) is_seen
 
@@ -82,7 +82,7 @@ module _ {T : Type 0} where
 
   -- ---- a slot in use is freed, behind the vector's slice
 
-  module _ (arena : Arena T) (slot : ℕ) (in_use : IsInUse arena slot) (seen new : List (Entry T)) (is_seen : seen ≡ arena.slots.items) (fits : length new ≡ arena.slots.len) (written : contents new ≡ set (contents seen) slot (Free arena.first_free)) where
+  module _ (arena : Arena T) (slot : ℕ) (in_use : IsInUse arena slot) (seen new : List (LinkedSlot T)) (is_seen : seen ≡ arena.slots.items) (fits : length new ≡ arena.slots.len) (written : contents new ≡ set (contents seen) slot (Free arena.first_free)) where
     pub contents-freed : contents (with_items arena.slots new).items ≡ set (contents arena.slots.items) slot (Free arena.first_free)
     contents-freed = ap contents (with_items_is arena.slots new fits) ∙ written ∙ ap (λ all. set (contents all) slot (Free arena.first_free)) is_seen
 
@@ -123,7 +123,7 @@ module _ {T : Type 0} where
 
   -- ---- a free slot is added
 
-  module _ (arena : Arena T) (new : List (Entry T)) (links : (side : Side) → links_on side new ≡ links_on side arena.slots.items ++ no_link ∷ []) (added : contents new ≡ contents arena.slots.items ++ Free arena.first_free ∷ []) where
+  module _ (arena : Arena T) (new : List (LinkedSlot T)) (links : (side : Side) → links_on side new ≡ links_on side arena.slots.items ++ no_link ∷ []) (added : contents new ≡ contents arena.slots.items ++ Free arena.first_free ∷ []) where
     pub IsSide-added : (side : Side) → IsSide side new (ends_on arena side) (lists_on arena side)
     IsSide-added side = rw (lists_on-is arena side) (IsSide-more_slots side arena.slots.items new (ends_on arena side) arena.first_free (are_linked arena side) (links side) added)
 

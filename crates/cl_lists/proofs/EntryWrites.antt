@@ -7,7 +7,7 @@ use Rattle.std.proofs.lemmas.Bool.{cases_lt}
 use Rattle.cl_lists.specs.declared.slots.Link.{Link}
 use Rattle.cl_lists.specs.declared.slots.Side.{Side}
 use Rattle.cl_lists.specs.declared.slots.Side.TheVariants.{X, Y}
-use Rattle.cl_lists.specs.declared.slots.Entry.{Entry}
+use Rattle.cl_lists.specs.declared.slots.LinkedSlot.{LinkedSlot}
 use Rattle.cl_lists.specs.declared.slots.Content.{Content}
 use Rattle.cl_lists.specs.Sides.{opposite}
 use Rattle.cl_lists.specs.Entries.{link_of, with_link, links_on, contents, used, frees, DifferOn, SameLinks}
@@ -23,20 +23,20 @@ pub read_as : {A B : Type 0} (f : A → B) (xs : List A) (i : ℕ) (x : A) (past
 read_as f xs i x past h = get_or_from_slice_get (map f xs) i (f x) past (slice_get-map f xs i ∙ rw h refl)
 
 module _ {T : Type 0} where
-  link_of-with_link : (side : Side) (entry : Entry T) (link : Link) → link_of side (with_link side entry link) ≡ link
+  link_of-with_link : (side : Side) (entry : LinkedSlot T) (link : Link) → link_of side (with_link side entry link) ≡ link
   link_of-with_link X entry link = refl
   link_of-with_link Y entry link = refl
 
-  link_of-with_link_other : (side : Side) (entry : Entry T) (link : Link) → link_of (opposite side) (with_link side entry link) ≡ link_of (opposite side) entry
+  link_of-with_link_other : (side : Side) (entry : LinkedSlot T) (link : Link) → link_of (opposite side) (with_link side entry link) ≡ link_of (opposite side) entry
   link_of-with_link_other X entry link = refl
   link_of-with_link_other Y entry link = refl
 
-  content-with_link : (side : Side) (entry : Entry T) (link : Link) → (with_link side entry link).content ≡ entry.content
+  content-with_link : (side : Side) (entry : LinkedSlot T) (link : Link) → (with_link side entry link).content ≡ entry.content
   content-with_link X entry link = refl
   content-with_link Y entry link = refl
 
-  module _ (side : Side) (slots : List (Entry T)) (index slot : ℕ) (d new : Entry T) (link : Link) (same : index ≡ slot) (written : new ≡ with_link side (get_or slots index d) link) where
-    abbrev entry : Entry T
+  module _ (side : Side) (slots : List (LinkedSlot T)) (index slot : ℕ) (d new : LinkedSlot T) (link : Link) (same : index ≡ slot) (written : new ≡ with_link side (get_or slots index d) link) where
+    abbrev entry : LinkedSlot T
     entry = get_or slots index d
 
     pub links_on-set_link : links_on side (set slots index new) ≡ set (links_on side slots) slot link
@@ -54,8 +54,8 @@ module _ {T : Type 0} where
 
   -- ---- a write to what a slot has
 
-  module _ (slots : List (Entry T)) (index slot : ℕ) (d : Entry T) (new content : Content T) (same : index ≡ slot) (after : new ≡ content) where
-    abbrev filled : Entry T
+  module _ (slots : List (LinkedSlot T)) (index slot : ℕ) (d : LinkedSlot T) (new content : Content T) (same : index ≡ slot) (after : new ≡ content) where
+    abbrev filled : LinkedSlot T
     filled = record { x = (get_or slots index d).x; y = (get_or slots index d).y; content = new }
 
     pub contents-set_content : contents (set slots index filled) ≡ set (contents slots) slot content
@@ -71,19 +71,19 @@ module _ {T : Type 0} where
 
   -- ---- what a slot has, as it is read
 
-  pub content_read : (slots : List (Entry T)) (index slot : ℕ) (d : Entry T) → index ≡ slot → slot < length slots → slice_get (contents slots) slot ≡ Some (get_or slots index d).content
+  pub content_read : (slots : List (LinkedSlot T)) (index slot : ℕ) (d : LinkedSlot T) → index ≡ slot → slot < length slots → slice_get (contents slots) slot ≡ Some (get_or slots index d).content
   content_read slots index slot d same inside =
       slice_get-get_or (contents slots) slot d.content (rw length-map inside)
       ∙ ap Some (get_or-map (λ e. e.content) slots slot d d.content inside)
       ∙ ap (λ i. Some (get_or slots i d).content) (sym same)
 
-  pub inside-used : (slots : List (Entry T)) (slot : ℕ) → get_or (used slots) slot false ≡ true → slot < length slots
+  pub inside-used : (slots : List (LinkedSlot T)) (slot : ℕ) → get_or (used slots) slot false ≡ true → slot < length slots
   inside-used slots slot in_use = elim (cases_lt slot (length slots)) [
     | inl inside ↦ inside
     | inr past ↦ absurd (grind (arith, in_use, get_or_past (used slots) slot false (rw (length-map, length-map) past)))
   ]
 
-  pub inside-frees : (slots : List (Entry T)) (slot : ℕ) → IsSome (get_or (frees slots) slot None) → slot < length slots
+  pub inside-frees : (slots : List (LinkedSlot T)) (slot : ℕ) → IsSome (get_or (frees slots) slot None) → slot < length slots
   inside-frees slots slot free = elim (cases_lt slot (length slots)) [
     | inl inside ↦ inside
     | inr past ↦ absurd (grind (arith, free, get_or_past (frees slots) slot None (rw (length-map, length-map) past)))

@@ -6,7 +6,7 @@ use Rattle.cl_lists.specs.declared.slots.Link.{Link}
 use Rattle.cl_lists.specs.declared.slots.Ends.{Ends}
 use Rattle.cl_lists.specs.declared.slots.Side.{Side}
 use Rattle.cl_lists.specs.declared.slots.Side.TheVariants.{X, Y}
-use Rattle.cl_lists.specs.declared.slots.Entry.{Entry}
+use Rattle.cl_lists.specs.declared.slots.LinkedSlot.{LinkedSlot}
 use Rattle.cl_lists.specs.declared.slots.Content.{Content}
 use Rattle.cl_lists.specs.declared.slots.Content.TheVariants.{Item, Free}
 use Rattle.cl_lists.specs.Links.{no_link, no_ends, IsLinked, lists_of}
@@ -18,11 +18,11 @@ use Rattle.cl_lists.proofs.Walk.{lists_of-linked}
 
 module _ {T : Type 0} where
   -- the lists are those that the links agree with
-  pub record IsSide (side : Side) (slots : List (Entry T)) (ends : List Ends) (lists : List (List ℕ)) : Type 0 where
+  pub record IsSide (side : Side) (slots : List (LinkedSlot T)) (ends : List Ends) (lists : List (List ℕ)) : Type 0 where
     pub linked : AreLinked side slots ends
     pub lists_are : lists_on_side side slots ends ≡ lists
 
-  pub IsSide-from : (side : Side) (slots : List (Entry T)) (ends : List Ends) (links : List Link) (uses : List Bool) (lists : List (List ℕ)) → IsLinked links ends uses lists → links_on side slots ≡ links → used slots ≡ uses → IsSide side slots ends lists
+  pub IsSide-from : (side : Side) (slots : List (LinkedSlot T)) (ends : List Ends) (links : List Link) (uses : List Bool) (lists : List (List ℕ)) → IsLinked links ends uses lists → links_on side slots ≡ links → used slots ≡ uses → IsSide side slots ends lists
   IsSide-from side slots ends links uses lists linked same_links same_uses =
       let here : IsLinked (links_on side slots) ends (used slots) lists = rw (same_links, same_uses) linked in
       let are : lists_on_side side slots ends ≡ lists = lists_of-linked (links_on side slots) ends (used slots) lists here in
@@ -35,18 +35,18 @@ module _ {T : Type 0} where
   unused_by_contents (Item item ∷ all) zero free = absurd (grind (arith, free))
   unused_by_contents (content ∷ all) (suc slot) free = unused_by_contents all slot free
 
-  pub unused-free : (slots : List (Entry T)) (slot : ℕ) → IsSome (get_or (frees slots) slot None) → get_or (used slots) slot false ≡ false
+  pub unused-free : (slots : List (LinkedSlot T)) (slot : ℕ) → IsSome (get_or (frees slots) slot None) → get_or (used slots) slot false ≡ false
   unused-free slots slot free = unused_by_contents (contents slots) slot free
 
-  pub used-differ : (side : Side) (slots new : List (Entry T)) → DifferOn side slots new → used new ≡ used slots
+  pub used-differ : (side : Side) (slots new : List (LinkedSlot T)) → DifferOn side slots new → used new ≡ used slots
   used-differ side slots new differ = ap (map is_item) differ.contents
 
   -- a change of one side's links leaves the other side as it was
-  pub lists_on_side-differ : (side : Side) (slots new : List (Entry T)) (ends : List Ends) → DifferOn side slots new → lists_on_side (opposite side) new ends ≡ lists_on_side (opposite side) slots ends
+  pub lists_on_side-differ : (side : Side) (slots new : List (LinkedSlot T)) (ends : List Ends) → DifferOn side slots new → lists_on_side (opposite side) new ends ≡ lists_on_side (opposite side) slots ends
   lists_on_side-differ side slots new ends differ = ap (λ links. lists_of links ends) differ.links
 
   -- Side X changed first, then side Y, then what the slot has: first is what the slots were then.
-  module _ (first second third last : List (Entry T)) (x_changed : DifferOn X first second) (y_changed : DifferOn Y second third) (same : SameLinks third last) where
+  module _ (first second third last : List (LinkedSlot T)) (x_changed : DifferOn X first second) (y_changed : DifferOn Y second third) (same : SameLinks third last) where
     pub links_x : links_on X last ≡ links_on X second
     links_x = same X ∙ y_changed.links
 
@@ -69,11 +69,11 @@ module _ {T : Type 0} where
 
   -- ---- no slots and no lists
 
-  pub lists_on_side-none : (side : Side) (slots : List (Entry T)) (ends : List Ends) → ends ≡ [] → lists_on_side side slots ends ≡ []
+  pub lists_on_side-none : (side : Side) (slots : List (LinkedSlot T)) (ends : List Ends) → ends ≡ [] → lists_on_side side slots ends ≡ []
   unfolding lists_of
   lists_on_side-none side slots ends none = ap (λ es. lists_on_side side slots es) none
 
-  pub AreLinked-none : (side : Side) (slots : List (Entry T)) (ends : List Ends) → slots ≡ [] → ends ≡ [] → AreLinked side slots ends
+  pub AreLinked-none : (side : Side) (slots : List (LinkedSlot T)) (ends : List Ends) → slots ≡ [] → ends ≡ [] → AreLinked side slots ends
   AreLinked-none side slots ends no_slots no_ends =
       let links_none : links_on side slots ≡ [] = ap (links_on side) no_slots in
       let used_none : used slots ≡ [] = ap used no_slots in
@@ -81,7 +81,7 @@ module _ {T : Type 0} where
 
   -- ---- the slots and the ends behind two vectors that were written to as slices
 
-  module _ (side : Side) (slots : Vec (Entry T) Global) (ends : Vec Ends Global) (new : List (Entry T)) (new_ends : List Ends) (fits : length new ≡ slots.len) (fits_ends : length new_ends ≡ ends.len) where
+  module _ (side : Side) (slots : Vec (LinkedSlot T) Global) (ends : Vec Ends Global) (new : List (LinkedSlot T)) (new_ends : List Ends) (fits : length new ≡ slots.len) (fits_ends : length new_ends ≡ ends.len) where
     pub AreLinked-with_items : AreLinked side new new_ends → AreLinked side (with_items slots new).items (with_items ends new_ends).items
     AreLinked-with_items linked =
         subst (λ s. AreLinked side s (with_items ends new_ends).items) (sym (with_items_is slots new fits))
@@ -94,19 +94,19 @@ module _ {T : Type 0} where
 
   -- ---- lists and slots come
 
-  pub IsSide-more_lists : (side : Side) (slots : List (Entry T)) (ends new : List Ends) (n : ℕ) → AreLinked side slots ends → new ≡ ends ++ replicate n no_ends → IsSide side slots new (lists_on_side side slots ends ++ replicate n [])
+  pub IsSide-more_lists : (side : Side) (slots : List (LinkedSlot T)) (ends new : List Ends) (n : ℕ) → AreLinked side slots ends → new ≡ ends ++ replicate n no_ends → IsSide side slots new (lists_on_side side slots ends ++ replicate n [])
   IsSide-more_lists side slots ends new n linked more =
       IsSide-from side slots new (links_on side slots) (used slots) (lists_on_side side slots ends ++ replicate n [])
       (rw more (IsLinked-more_lists (links_on side slots) ends (used slots) (lists_on_side side slots ends) n linked)) refl refl
 
-  pub IsSide-more_slots : (side : Side) (slots new : List (Entry T)) (ends : List Ends) (next : Option ℕ) → AreLinked side slots ends → links_on side new ≡ links_on side slots ++ no_link ∷ [] → contents new ≡ contents slots ++ Free next ∷ [] → IsSide side new ends (lists_on_side side slots ends)
+  pub IsSide-more_slots : (side : Side) (slots new : List (LinkedSlot T)) (ends : List Ends) (next : Option ℕ) → AreLinked side slots ends → links_on side new ≡ links_on side slots ++ no_link ∷ [] → contents new ≡ contents slots ++ Free next ∷ [] → IsSide side new ends (lists_on_side side slots ends)
   IsSide-more_slots side slots new ends next linked links_more contents_more =
       IsSide-from side new ends (links_on side slots ++ no_link ∷ []) (used slots ++ false ∷ []) (lists_on_side side slots ends)
       (IsLinked-more_slots (links_on side slots) ends (used slots) (lists_on_side side slots ends) linked)
       links_more (used-added slots new next contents_more)
 
   -- lists came or not
-  pub AreLinked-grown : (side : Side) (slots : List (Entry T)) (ends new : List Ends) (n : ℕ) → AreLinked side slots ends → (new ≡ ends ++ replicate n no_ends) ⊎ (new ≡ ends) → AreLinked side slots new
+  pub AreLinked-grown : (side : Side) (slots : List (LinkedSlot T)) (ends new : List Ends) (n : ℕ) → AreLinked side slots ends → (new ≡ ends ++ replicate n no_ends) ⊎ (new ≡ ends) → AreLinked side slots new
   AreLinked-grown side slots ends new n linked grown = elim grown [
     | inl more ↦ (IsSide-more_lists side slots ends new n linked more).linked
     | inr same ↦ subst (AreLinked side slots) (sym same) linked

@@ -36,8 +36,8 @@ module _ {T : Type 0} where
   items_on arena side list = filter_map (item_at arena) (list_of arena side list)
 
   -- how many more items there is room for
-  unfoldable pub spare_slots : Arena T → ℕ
-  spare_slots arena = free_count arena.slots.items
+  unfoldable pub free_slots : Arena T → ℕ
+  free_slots arena = free_count arena.slots.items
 
   -- each slot in use is on one list of the side, once, and no other slot is on any
   pub record IsPlaced (arena : Arena T) (side : Side) : Type 0 where

@@ -4,7 +4,7 @@ ghost use Rattle.cl_lists.specs.declared.slots.Side.TheVariants.{X, Y};
 ghost use Rattle.cl_lists.specs.Entries.{AreLinked, frees, free_count as free_among};
 ghost use Rattle.cl_lists.specs.FreeList.{is_free_list};
 
-use crate::slots::{Content, Ends, Entry, Side, Slot};
+use crate::slots::{Content, Ends, LinkedSlot, Side, Slot};
 use crate::{both_sides, contents, links};
 use cl_types::NoMemory;
 use std::alloc::Global;
@@ -15,7 +15,7 @@ use std::alloc::Global;
 /// last, and how many more items there is room for.
 #[derive(Debug, Drop)]
 pub struct Arena<T> {
-    slots: Vec<Entry<T>>,
+    slots: Vec<LinkedSlot<T>>,
     x_ends: Vec<Ends>,
     y_ends: Vec<Ends>,
     first_free: Option<Slot>,
@@ -32,14 +32,14 @@ impl<T> Arena<T> {
     ghost use Rattle.std.specs.Prelude.{◌≡◌, ◌+◌, ◌≤◌, ◌<◌, ◌^◌, ◌++◌, max, [], ℕ, Some, None, IsOk, OnOk, OnErr, IfSome, replicate};
     ghost use Rattle.cl_lists.specs.SlotList.{IsOn, first_of, last_of, after_in, before_in};
     ghost use Rattle.cl_lists.specs.Sides.{opposite};
-    ghost use Rattle.cl_lists.specs.Arena.{lists_on, list_of, list_count, item_at, IsInUse, spare_slots, IsPlaced, Pushes, Unlinks, IsUnchanged};
+    ghost use Rattle.cl_lists.specs.Arena.{lists_on, list_of, list_count, item_at, IsInUse, free_slots, IsPlaced, Pushes, Unlinks, IsUnchanged};
 
     /// An arena with no item and no list. It takes no memory.
     pub fn new(alloc: Global) -> Self
         ensures x { lists_on result Side.X ≡ [] }
         ensures y { lists_on result Side.Y ≡ [] }
         ensures items { (slot : ℕ) → item_at result slot ≡ None }
-        ensures spare { spare_slots result ≡ 0 }
+        ensures room { free_slots result ≡ 0 }
     {
         Arena {
             slots: Vec::new(alloc),
@@ -51,8 +51,8 @@ impl<T> Arena<T> {
     }
 
     /// How many more items there is room for.
-    pub fn spare(&self) -> usize
-        ensures { result ≡ spare_slots self.now }
+    pub fn room(&self) -> usize
+        ensures { result ≡ free_slots self.now }
     {
         self.free_count
     }
@@ -76,7 +76,7 @@ impl<T> Arena<T> {
         ensures none { count ≡ 0 → IsOk result }
         ensures other { lists_on self.new (opposite side) ≡ lists_on self.old (opposite side) }
         ensures items { (slot : ℕ) → item_at self.new slot ≡ item_at self.old slot }
-        ensures spare { spare_slots self.new ≡ spare_slots self.old }
+        ensures room { free_slots self.new ≡ free_slots self.old }
     {
         match side {
             Side::X => links::add_lists(&mut self.x_ends, count),
@@ -89,10 +89,10 @@ impl<T> Arena<T> {
     /// Each slot that it adds takes a step; where there is room already it does nothing.
     pub fn reserve(&mut self, count: usize) -> Result<(), NoMemory>
         ensures same { IsUnchanged self.old self.new }
-        ensures ok { OnOk result (count ≤ spare_slots self.new) }
-        ensures roomy { count ≤ spare_slots self.old → IsOk result }
-        ensures kept { spare_slots self.old ≤ spare_slots self.new }
-        ensures most { spare_slots self.new ≤ max count (spare_slots self.old) }
+        ensures ok { OnOk result (count ≤ free_slots self.new) }
+        ensures roomy { count ≤ free_slots self.old → IsOk result }
+        ensures keeps_room { free_slots self.old ≤ free_slots self.new }
+        ensures most { free_slots self.new ≤ max count (free_slots self.old) }
     {
         self.slots.reserve(count.saturating_sub(self.free_count))?;
         while self.free_count < count {
@@ -104,8 +104,8 @@ impl<T> Arena<T> {
     // Adds a free slot.
     fn add_slot(&mut self) -> Result<(), NoMemory>
         ensures same { IsUnchanged self.old self.new }
-        ensures ok { OnOk result (spare_slots self.new ≡ spare_slots self.old + 1) }
-        ensures err { OnErr result (spare_slots self.new ≡ spare_slots self.old) }
+        ensures ok { OnOk result (free_slots self.new ≡ free_slots self.old + 1) }
+        ensures err { OnErr result (free_slots self.new ≡ free_slots self.old) }
     {
         let index = self.slots.len();
         contents::add_free(&mut self.slots, self.first_free)?;
@@ -116,12 +116,12 @@ impl<T> Arena<T> {
 
     /// Puts an item last on list `x` of side X and last on list `y` of side Y. It takes no memory, and constant time.
     pub fn push_back(&mut self, x: u32, y: u32, item: T) -> Slot
-        requires room { 1 ≤ spare_slots self.old }
+        requires room { 1 ≤ free_slots self.old }
         requires x_exists { x < list_count self.old Side.X }
         requires y_exists { y < list_count self.old Side.Y }
         ensures pushes { Pushes self.old self.new x y result item }
         ensures as_many { (side : Side) → list_count self.new side ≡ list_count self.old side }
-        ensures spare { spare_slots self.new + 1 ≡ spare_slots self.old }
+        ensures room { free_slots self.new + 1 ≡ free_slots self.old }
     {
         let Some(slot) = self.first_free else {
             unreachable!()
@@ -144,7 +144,7 @@ impl<T> Arena<T> {
         requires { IsInUse self.old slot }
         ensures unlinks { Unlinks self.old self.new slot result }
         ensures as_many { (side : Side) → list_count self.new side ≡ list_count self.old side }
-        ensures spare { spare_slots self.new ≡ spare_slots self.old + 1 }
+        ensures room { free_slots self.new ≡ free_slots self.old + 1 }
     {
         let item = both_sides::extract(
             &mut self.slots,

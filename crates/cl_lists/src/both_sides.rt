@@ -3,12 +3,12 @@ ghost use Rattle.std.specs.Prelude.{◌≡◌, ◌<◌, IsSome, Some, None, leng
 ghost use Rattle.cl_lists.specs.Entries.{contents, frees, items, used, lists_on_side, AreLinked};
 ghost use Rattle.cl_lists.specs.Lists.{appended, removed};
 
-use crate::slots::{Content, Ends, Entry, Side, Slot};
+use crate::slots::{Content, Ends, LinkedSlot, Side, Slot};
 use crate::{contents, links};
 
 // Puts an item into a free slot, last on a list of each side. The result is the next free slot, which the slot named.
 pub(crate) fn insert<T>(
-    slots: &mut [Entry<T>],
+    slots: &mut [LinkedSlot<T>],
     x_ends: &mut [Ends],
     y_ends: &mut [Ends],
     x: u32,
@@ -35,7 +35,7 @@ pub(crate) fn insert<T>(
 
 // Takes the item out of a slot, and the slot off its lists. The slot is then free and names the next free slot.
 pub(crate) fn extract<T>(
-    slots: &mut [Entry<T>],
+    slots: &mut [LinkedSlot<T>],
     x_ends: &mut [Ends],
     y_ends: &mut [Ends],
     slot: Slot,

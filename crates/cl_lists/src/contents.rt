@@ -3,12 +3,12 @@ ghost use Rattle.std.specs.Prelude.{◌≡◌, ◌<◌, [], ◌∷◌, ◌++◌,
 ghost use Rattle.cl_lists.specs.Entries.{contents, links_on, frees, used, item_of, SameLinks};
 ghost use Rattle.cl_lists.specs.Links.{no_link};
 
-use crate::slots::{Content, Entry, Side, Slot};
+use crate::slots::{Content, LinkedSlot, Side, Slot};
 use cl_types::NoMemory;
 use std::mem;
 
 // Puts a content into a slot, and gives the one that was there.
-fn exchange<T>(slots: &mut [Entry<T>], slot: Slot, content: Content<T>) -> Content<T>
+fn exchange<T>(slots: &mut [LinkedSlot<T>], slot: Slot, content: Content<T>) -> Content<T>
     requires { slot < length slots.old }
     ensures had { slice_get (contents slots.old) slot ≡ Some result }
     ensures contents { contents slots.new ≡ slice_set (contents slots.old) slot content }
@@ -18,7 +18,7 @@ fn exchange<T>(slots: &mut [Entry<T>], slot: Slot, content: Content<T>) -> Conte
 }
 
 // Puts an item into a free slot. The result is the next free slot, which the slot named.
-pub(crate) fn fill<T>(slots: &mut [Entry<T>], slot: Slot, item: T) -> Option<Slot>
+pub(crate) fn fill<T>(slots: &mut [LinkedSlot<T>], slot: Slot, item: T) -> Option<Slot>
     requires { IsSome (slice_index_or (frees slots.old) slot None) }
     ensures next { slice_index_or (frees slots.old) slot None ≡ Some result }
     ensures contents { contents slots.new ≡ slice_set (contents slots.old) slot (Content.Item item) }
@@ -31,7 +31,7 @@ pub(crate) fn fill<T>(slots: &mut [Entry<T>], slot: Slot, item: T) -> Option<Slo
 }
 
 // Takes the item out of a slot, which is then free and names the next free slot.
-pub(crate) fn vacate<T>(slots: &mut [Entry<T>], slot: Slot, next: Option<Slot>) -> T
+pub(crate) fn vacate<T>(slots: &mut [LinkedSlot<T>], slot: Slot, next: Option<Slot>) -> T
     requires { slice_index_or (used slots.old) slot false ≡ true }
     ensures item { slice_index_or (map item_of (contents slots.old)) slot None ≡ Some result }
     ensures contents { contents slots.new ≡ slice_set (contents slots.old) slot (Content.Free next) }
@@ -44,13 +44,16 @@ pub(crate) fn vacate<T>(slots: &mut [Entry<T>], slot: Slot, next: Option<Slot>) 
 }
 
 // Adds a free slot behind the others. It names the next free slot.
-pub(crate) fn add_free<T>(slots: &mut Vec<Entry<T>>, next: Option<Slot>) -> Result<(), NoMemory>
+pub(crate) fn add_free<T>(
+    slots: &mut Vec<LinkedSlot<T>>,
+    next: Option<Slot>,
+) -> Result<(), NoMemory>
     ensures contents { OnOk result (contents slots.new.items ≡ contents slots.old.items ++ Content.Free next ∷ []) }
     ensures links { OnOk result ((side : Side) → links_on side slots.new.items ≡ links_on side slots.old.items ++ no_link ∷ []) }
     ensures err { OnErr result (slots.new.items ≡ slots.old.items) }
 {
     slots.reserve(1)?;
-    match slots.push(Entry::free(next)) {
+    match slots.push(LinkedSlot::free(next)) {
         Ok(()) => Ok(()),
         Err(_) => unreachable!(),
     }

@@ -4,11 +4,11 @@ ghost use Rattle.cl_lists.specs.Entries.{links_on, lists_on_side, used, AreLinke
 ghost use Rattle.cl_lists.specs.Lists.{appended, removed};
 ghost use Rattle.cl_lists.specs.Links.{IsInside, IsLinked, no_ends, link_at, ends_at, links_with_next, links_with_prev, ends_with_next, ends_with_prev};
 
-use crate::slots::{Ends, Entry, Link, Side, Slot};
+use crate::slots::{Ends, Link, LinkedSlot, Side, Slot};
 use cl_types::NoMemory;
 
 // The links of a slot on one side.
-pub(crate) fn link<T>(slots: &[Entry<T>], side: Side, slot: Slot) -> Link
+pub(crate) fn link<T>(slots: &[LinkedSlot<T>], side: Side, slot: Slot) -> Link
     requires { slot < length slots.now }
     ensures { result ≡ link_at (links_on side slots.now) slot }
 {
@@ -16,7 +16,7 @@ pub(crate) fn link<T>(slots: &[Entry<T>], side: Side, slot: Slot) -> Link
 }
 
 // Writes the links of a slot on one side.
-fn set_link<T>(slots: &mut [Entry<T>], side: Side, slot: Slot, link: &Link)
+fn set_link<T>(slots: &mut [LinkedSlot<T>], side: Side, slot: Slot, link: &Link)
     requires { slot < length slots.old }
     ensures links { links_on side slots.new ≡ slice_set (links_on side slots.old) slot link.now }
     ensures rest { DifferOn side slots.old slots.new }
@@ -26,7 +26,7 @@ fn set_link<T>(slots: &mut [Entry<T>], side: Side, slot: Slot, link: &Link)
 
 // Writes what comes after a place of a list. `None` is the place before the first slot.
 fn set_next<T>(
-    slots: &mut [Entry<T>],
+    slots: &mut [LinkedSlot<T>],
     ends: &mut [Ends],
     side: Side,
     list: u32,
@@ -49,7 +49,7 @@ fn set_next<T>(
 
 // Writes what comes before a place of a list. `None` is the place after the last slot.
 fn set_prev<T>(
-    slots: &mut [Entry<T>],
+    slots: &mut [LinkedSlot<T>],
     ends: &mut [Ends],
     side: Side,
     list: u32,
@@ -72,7 +72,7 @@ fn set_prev<T>(
 
 // Puts a slot that is on no list last on one of the side's lists.
 pub(crate) fn append<T>(
-    slots: &mut [Entry<T>],
+    slots: &mut [LinkedSlot<T>],
     ends: &mut [Ends],
     side: Side,
     list: u32,
@@ -96,7 +96,7 @@ pub(crate) fn append<T>(
 }
 
 // Takes a slot that is in use off its list of the side.
-pub(crate) fn remove<T>(slots: &mut [Entry<T>], ends: &mut [Ends], side: Side, slot: Slot)
+pub(crate) fn remove<T>(slots: &mut [LinkedSlot<T>], ends: &mut [Ends], side: Side, slot: Slot)
     requires linked { AreLinked side slots.old ends.old }
     requires in_use { slice_index_or (used slots.old) slot false ≡ true }
     ensures linked { IsLinked (links_on side slots.new) ends.new (slice_set (used slots.old) slot false) (removed (lists_on_side side slots.old ends.old) slot) }

@@ -67,13 +67,13 @@ pub(crate) enum Content<T> {
 
 // A slot with its two links. Those of a free slot say nothing.
 #[derive(Debug, Drop)]
-pub(crate) struct Entry<T> {
+pub(crate) struct LinkedSlot<T> {
     pub(crate) x: Link,
     pub(crate) y: Link,
     pub(crate) content: Content<T>,
 }
 
-impl<T> Entry<T> {
+impl<T> LinkedSlot<T> {
     ghost use Rattle.cl_lists.specs.Links.{no_link};
     ghost use Rattle.cl_lists.specs.Entries.{link_of, with_link};
 
@@ -81,7 +81,7 @@ impl<T> Entry<T> {
     pub(crate) fn free(next: Option<Slot>) -> Self
         ensures { result ≡ record { x = no_link; y = no_link; content = Content.Free next } }
     {
-        Entry {
+        LinkedSlot {
             x: Link::NONE,
             y: Link::NONE,
             content: Content::Free(next),

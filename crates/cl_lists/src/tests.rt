@@ -28,7 +28,7 @@ fn items_that_own_memory_come_back(rt: HostRuntime) -> Result<(), Fail> {
     arena.add_lists(Side::Y, 1)?;
     arena.reserve(2)?;
     assert_eq!(rt; arena.lists(Side::X), 2);
-    assert_eq!(rt; arena.spare(), 2);
+    assert_eq!(rt; arena.room(), 2);
     let kept = arena.push_back(1, 0, String::from_str(rt.alloc(), "kept")?);
     let gone = arena.push_back(1, 0, String::from_str(rt.alloc(), "gone")?);
     assert_eq!(rt; arena.prev(Side::X, gone), Some(kept));
@@ -36,7 +36,7 @@ fn items_that_own_memory_come_back(rt: HostRuntime) -> Result<(), Fail> {
     assert_eq!(rt; arena.get(kept).as_str(), "kept");
     assert_eq!(rt; arena.last(Side::X, 1), Some(kept));
     assert_eq!(rt; arena.prev(Side::X, kept), None);
-    assert_eq!(rt; arena.spare(), 1);
+    assert_eq!(rt; arena.room(), 1);
     Ok(())
 }
 

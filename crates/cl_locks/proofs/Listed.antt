@@ -7,7 +7,7 @@ use Rattle.std.proofs.lemmas.Option.{same_Some}
 use Rattle.cl_lists.specs.declared.arena.Arena.{Arena}
 use Rattle.cl_lists.specs.declared.slots.Side.{Side}
 use Rattle.cl_lists.specs.declared.slots.Side.TheVariants.{X, Y}
-use Rattle.cl_lists.specs.Arena.{lists_on, list_of, list_count, item_at, items_on, spare_slots, Pushes, Unlinks}
+use Rattle.cl_lists.specs.Arena.{lists_on, list_of, list_count, item_at, items_on, free_slots, Pushes, Unlinks}
 use Rattle.cl_lists.specs.Lists.{list_at}
 use Rattle.cl_lists.specs.Sides.{opposite, on_side}
 use Rattle.cl_lists.specs.SlotList.{has}
@@ -94,7 +94,7 @@ unfolding txn_list
 txn_list-below txn = omega arith
 
 -- with all lists and a slot there is room for any grant
-pub HasRoomFor-all : (granted : Arena Grant) (grant : Grant) → 1024 ≤ list_count granted X → 64 ≤ list_count granted Y → 1 ≤ spare_slots granted → HasRoomFor granted grant
+pub HasRoomFor-all : (granted : Arena Grant) (grant : Grant) → 1024 ≤ list_count granted X → 64 ≤ list_count granted Y → 1 ≤ free_slots granted → HasRoomFor granted grant
 HasRoomFor-all granted grant places txns slot = record {
   place = omega (arith, place_list-below grant.place.1);
   txn = omega (arith, txn_list-below grant.txn);
@@ -205,8 +205,8 @@ module _ (old new : Arena Grant) (slot : ℕ) (grant : Grant) (unlinks : Unlinks
         stays_on Y (txn_list found.txn) other differ (listed.by_txn other found (sym (unlinks.updates.others other differ) ∙ has_item));
   }
 
-  pub HasRoomFor-unlinked : spare_slots new ≡ spare_slots old + 1 → HasRoomFor new grant
-  HasRoomFor-unlinked spare = record {
+  pub HasRoomFor-unlinked : free_slots new ≡ free_slots old + 1 → HasRoomFor new grant
+  HasRoomFor-unlinked room = record {
     place = rw (list_count-unlinked old new slot grant unlinks X) (list_of-exists old X (place_list grant.place.1) slot (listed.by_place slot grant unlinks.had));
     txn = rw (list_count-unlinked old new slot grant unlinks Y) (list_of-exists old Y (txn_list grant.txn) slot (listed.by_txn slot grant unlinks.had));
     slot = omega arith;

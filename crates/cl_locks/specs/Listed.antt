@@ -3,7 +3,7 @@ use Rattle.std.specs.Prelude.{◌≡◌, ℕ, ◌<◌, ◌≤◌, ◌%◌, List,
 use Rattle.cl_lists.specs.declared.arena.Arena.{Arena}
 use Rattle.cl_lists.specs.declared.slots.Side.{Side}
 use Rattle.cl_lists.specs.declared.slots.Side.TheVariants.{X, Y}
-use Rattle.cl_lists.specs.Arena.{list_of, list_count, item_at, items_on, spare_slots}
+use Rattle.cl_lists.specs.Arena.{list_of, list_count, item_at, items_on, free_slots}
 use Rattle.cl_lists.specs.SlotList.{IsOn}
 use Rattle.cl_types.specs.declared.operations.TxnId.{TxnId}
 use Rattle.cl_types.specs.Placement.{hash_of}
@@ -36,4 +36,4 @@ pub record IsKept (old new : Arena Grant) : Type 0 where
 pub record HasRoomFor (granted : Arena Grant) (grant : Grant) : Type 0 where
   pub place : place_list grant.place.1 < list_count granted X
   pub txn : txn_list grant.txn < list_count granted Y
-  pub slot : 1 ≤ spare_slots granted
+  pub slot : 1 ≤ free_slots granted

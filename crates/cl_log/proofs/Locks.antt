@@ -12,7 +12,7 @@ use Rattle.cl_types.proofs.Modes.{stronger-none, stronger-exclusive}
 use Rattle.cl_types.specs.Places.{Place}
 use Rattle.cl_log.specs.declared.records.LogRec.{LogRec}
 use Rattle.cl_log.specs.declared.records.LogRec.TheVariants.{Touch, Set, Add}
-use Rattle.cl_log.specs.Entry.{Entry}
+use Rattle.cl_log.specs.LogEntry.{LogEntry}
 use Rattle.cl_log.specs.Kind.{txn_of, is_of, opens, is_end, can_be_undone, writes}
 use Rattle.cl_log.specs.Locks.{mode_at, mode_after, strongest_mode, locks_of_log, takes_lock, locks_after, HasNoConflict}
 use Rattle.cl_log.specs.Open.{has_begun, has_ended, is_open}
@@ -37,13 +37,13 @@ pub locks_of_log-nil : (txn : TxnId) (place : Place) → locks_of_log [] txn pla
 unfolding locks_of_log has_begun
 locks_of_log-nil txn place = refl
 
-pub strongest_mode_push : (entries : List Entry) (entry : Entry) (txn : TxnId) (place : Place) →
+pub strongest_mode_push : (entries : List LogEntry) (entry : LogEntry) (txn : TxnId) (place : Place) →
     strongest_mode (entries ++ entry ∷ []) txn place ≡ mode_after txn place (strongest_mode entries txn place) entry
 unfolding strongest_mode
 strongest_mode_push entries entry txn place = fold_push (mode_after txn place) None entries entry
 
 -- a transaction that has not begun has taken no lock
-fold_unbegun : (txn : TxnId) (place : Place) (mode : Option Mode) (entries : List Entry) →
+fold_unbegun : (txn : TxnId) (place : Place) (mode : Option Mode) (entries : List LogEntry) →
     list_any (λ entry. is_of txn entry.content && opens entry.content) entries ≡ false → fold (mode_after txn place) mode entries ≡ mode
 fold_unbegun txn place mode [] h = refl
 fold_unbegun txn place mode (x ∷ xs) h =
@@ -57,7 +57,7 @@ fold_unbegun txn place mode (x ∷ xs) h =
         ∙ stronger-none mode
     unchanged false t f = cond-false _ _ _ t
 
-pub strongest_mode-unbegun : (entries : List Entry) (txn : TxnId) (place : Place) → has_begun entries txn ≡ false → strongest_mode entries txn place ≡ None
+pub strongest_mode-unbegun : (entries : List LogEntry) (txn : TxnId) (place : Place) → has_begun entries txn ≡ false → strongest_mode entries txn place ≡ None
 unfolding strongest_mode has_begun
 strongest_mode-unbegun entries txn place h = fold_unbegun txn place None entries h
 
@@ -75,7 +75,7 @@ own_step false false true false taking strongest mode h free opened unbegun = ap
 own_step false false false false taking strongest mode h free opened unbegun = sym (free (opened refl))
 
 -- the locks of a log with one more record
-pub locks_of_log_push : (entries : List Entry) (entry : Entry) (txn : TxnId) (place : Place) →
+pub locks_of_log_push : (entries : List LogEntry) (entry : LogEntry) (txn : TxnId) (place : Place) →
     (takes_lock entry.content ≡ true → has_ended entries (txn_of entry.content) ≡ false) →
     locks_of_log (entries ++ entry ∷ []) txn place ≡ locks_after (locks_of_log entries) entry txn place
 unfolding locks_of_log
@@ -98,7 +98,7 @@ locks_of_log_push entries entry txn place running =
         ∙ sym (cond-false _ _ _ f)
 
 -- an open transaction locks the place of each of its writes exclusively
-strongest_exclusive : (txn : TxnId) (place : Place) (entries : List Entry) → fold (mode_after txn place) (Some Exclusive) entries ≡ Some Exclusive
+strongest_exclusive : (txn : TxnId) (place : Place) (entries : List LogEntry) → fold (mode_after txn place) (Some Exclusive) entries ≡ Some Exclusive
 strongest_exclusive txn place [] = refl
 strongest_exclusive txn place (x ∷ xs) =
     elim (cases_Bool (is_of txn x.content)) [
@@ -111,7 +111,7 @@ mode_at-write place (Set txn table key before old new) h k = cond-true _ _ _ k
 mode_at-write place (Add txn table key before amount) h k = cond-true _ _ _ k
 mode_at-write place content h k = absurd (false≢true h)
 
-pub locks_of_log-write : (xs : List Entry) (entry : Entry) (ys : List Entry) (txn : TxnId) (place : Place) →
+pub locks_of_log-write : (xs : List LogEntry) (entry : LogEntry) (ys : List LogEntry) (txn : TxnId) (place : Place) →
     is_open (xs ++ entry ∷ ys) txn ≡ true → is_of txn entry.content ≡ true → can_be_undone entry.content ≡ true → writes place entry.content ≡ true →
     locks_of_log (xs ++ entry ∷ ys) txn place ≡ Some Exclusive
 unfolding locks_of_log strongest_mode
@@ -123,24 +123,24 @@ locks_of_log-write xs entry ys txn place running own undoable here =
     ∙ strongest_exclusive txn place ys
 
 -- two open transactions do not write at one place, where no locks conflict
-pub one_writer : (entries : List Entry) (a b : TxnId) (place : Place) → HasNoConflict entries →
+pub one_writer : (entries : List LogEntry) (a b : TxnId) (place : Place) → HasNoConflict entries →
     locks_of_log entries a place ≡ Some Exclusive → locks_of_log entries b place ≡ Some Exclusive → a ≡ b
 one_writer entries a b place none ea eb =
     none a b place (ap (λ m. is_conflict m (locks_of_log entries b place)) ea ∙ ap (is_conflict (Some Exclusive)) eb)
 
 -- a record of another transaction leaves the locks of this one
-pub locks_of_log_push-other : (entries : List Entry) (entry : Entry) (txn : TxnId) (place : Place) → is_of txn entry.content ≡ false → locks_of_log (entries ++ entry ∷ []) txn place ≡ locks_of_log entries txn place
+pub locks_of_log_push-other : (entries : List LogEntry) (entry : LogEntry) (txn : TxnId) (place : Place) → is_of txn entry.content ≡ false → locks_of_log (entries ++ entry ∷ []) txn place ≡ locks_of_log entries txn place
 unfolding locks_of_log
 locks_of_log_push-other entries entry txn place other =
     ap (λ b. cond b (strongest_mode (entries ++ entry ∷ []) txn place) None) (is_open_push-other txn entries entry other)
     ∙ ap (λ m. cond (is_open entries txn) m None) (strongest_mode_push entries entry txn place ∙ cond-false _ _ _ other)
 
 -- an End frees the locks of its transaction
-pub locks_of_log_push-end : (entries : List Entry) (entry : Entry) (txn : TxnId) (place : Place) → is_of txn entry.content ≡ true → is_end entry.content ≡ true → locks_of_log (entries ++ entry ∷ []) txn place ≡ None
+pub locks_of_log_push-end : (entries : List LogEntry) (entry : LogEntry) (txn : TxnId) (place : Place) → is_of txn entry.content ≡ true → is_end entry.content ≡ true → locks_of_log (entries ++ entry ∷ []) txn place ≡ None
 unfolding locks_of_log
 locks_of_log_push-end entries entry txn place own ended = cond-false _ _ _ (is_open_push-end txn entries entry own ended)
 
 -- what is not open holds no lock
-pub locks_of_log-closed : (entries : List Entry) (txn : TxnId) (place : Place) → is_open entries txn ≡ false → locks_of_log entries txn place ≡ None
+pub locks_of_log-closed : (entries : List LogEntry) (txn : TxnId) (place : Place) → is_open entries txn ≡ false → locks_of_log entries txn place ≡ None
 unfolding locks_of_log
 locks_of_log-closed entries txn place h = cond-false _ _ _ h

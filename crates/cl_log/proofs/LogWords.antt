@@ -2,7 +2,7 @@
 use Rattle.std.proofs.Common.{◌≡◌, ◌+◌, ◌≤◌, length, ap, arith}
 use Rattle.cl_types.specs.GrowingList.{items}
 use Rattle.cl_log.specs.declared.log.Log.{Log}
-use Rattle.cl_log.specs.Entry.{IsNumberedFrom}
+use Rattle.cl_log.specs.LogEntry.{IsNumberedFrom}
 use Rattle.cl_log.specs.Log.{entries, first_kept, next_number}
 use Rattle.cl_log.proofs.Numbered.{IsNumberedFrom-numbered, length-numbered}
 

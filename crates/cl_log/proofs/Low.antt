@@ -3,52 +3,52 @@ use Rattle.std.proofs.Common.{◌≡◌, ℕ, ◌+◌, ◌≤◌, ◌⊎◌, Boo
 use Rattle.std.specs.List.{find}
 use Rattle.std.specs.Option.{option_map_or}
 use Rattle.std.proofs.lemmas.Bool.{cond-true, cond-false, both_ways}
-use Rattle.cl_log.specs.Entry.{Entry, IsNumberedFrom}
+use Rattle.cl_log.specs.LogEntry.{LogEntry, IsNumberedFrom}
 use Rattle.cl_log.specs.Kind.{txn_of}
 use Rattle.cl_log.specs.Laws.{IsLeastOpen}
 use Rattle.cl_log.specs.Open.{is_open, low_of}
 use Rattle.cl_log.proofs.Entries.{number_at}
 
 -- the number of the first entry that passes, or the next number
-record IsLeast (p : Entry → Bool) (xs : List Entry) (next low : ℕ) : Type 0 where
+record IsLeast (p : LogEntry → Bool) (xs : List LogEntry) (next low : ℕ) : Type 0 where
   at_most_next : low ≤ next
-  least : (before : List Entry) (x : Entry) (after : List Entry) → xs ≡ before ++ x ∷ after → p x ≡ true → low ≤ x.number
-  found : (low ≡ next) ⊎ ((before : List Entry) × (x : Entry) × (after : List Entry) × (xs ≡ before ++ x ∷ after) × (p x ≡ true) × (low ≡ x.number))
+  least : (before : List LogEntry) (x : LogEntry) (after : List LogEntry) → xs ≡ before ++ x ∷ after → p x ≡ true → low ≤ x.number
+  found : (low ≡ next) ⊎ ((before : List LogEntry) × (x : LogEntry) × (after : List LogEntry) × (xs ≡ before ++ x ∷ after) × (p x ≡ true) × (low ≡ x.number))
 
-least_found : (p : Entry → Bool) (n : ℕ) (xs : List Entry) (next : ℕ) → IsNumberedFrom n xs → n + length xs ≡ next → IsLeast p xs next (option_map_or (λ (e : Entry). e.number) (find p xs) next)
+least_found : (p : LogEntry → Bool) (n : ℕ) (xs : List LogEntry) (next : ℕ) → IsNumberedFrom n xs → n + length xs ≡ next → IsLeast p xs next (option_map_or (λ (e : LogEntry). e.number) (find p xs) next)
 least_found p n [] next h l = record {
   at_most_next = omega arith;
   least = λ before x after e t. absurd (no_entry before x after e);
   found = inl refl;
 }
   where
-    no_entry : (before : List Entry) (x : Entry) (after : List Entry) → ◌≡◌ {A = List Entry} [] (before ++ x ∷ after) → ⊥
+    no_entry : (before : List LogEntry) (x : LogEntry) (after : List LogEntry) → ◌≡◌ {A = List LogEntry} [] (before ++ x ∷ after) → ⊥
     no_entry [] x after e = cc
     no_entry (y ∷ before) x after e = cc
 least_found p n (y ∷ ys) next h l = by_test (least_found p (n + 1) ys next h.1 (omega (arith, l))) (p y) refl
   where
     low : Bool → ℕ
-    low b = option_map_or (λ (e : Entry). e.number) (cond b (Some y) (find p ys)) next
+    low b = option_map_or (λ (e : LogEntry). e.number) (cond b (Some y) (find p ys)) next
 
-    by_test : IsLeast p ys next (option_map_or (λ (e : Entry). e.number) (find p ys) next) → (b : Bool) → p y ≡ b →
-        IsLeast p (y ∷ ys) next (option_map_or (λ (e : Entry). e.number) (cond (p y) (Some y) (find p ys)) next)
-    by_test again true t = subst (λ o. IsLeast p (y ∷ ys) next (option_map_or (λ (e : Entry). e.number) o next)) (sym (cond-true (p y) (Some y) (find p ys) t)) (record {
+    by_test : IsLeast p ys next (option_map_or (λ (e : LogEntry). e.number) (find p ys) next) → (b : Bool) → p y ≡ b →
+        IsLeast p (y ∷ ys) next (option_map_or (λ (e : LogEntry). e.number) (cond (p y) (Some y) (find p ys)) next)
+    by_test again true t = subst (λ o. IsLeast p (y ∷ ys) next (option_map_or (λ (e : LogEntry). e.number) o next)) (sym (cond-true (p y) (Some y) (find p ys) t)) (record {
       at_most_next = omega (arith, h.0, l);
       least = λ before x after e k. (let number = number_at n before x after (subst (IsNumberedFrom n) e h) in omega (arith, number, h.0));
       found = inr ([], y, ys, refl, t, refl);
     })
-    by_test again false f = subst (λ o. IsLeast p (y ∷ ys) next (option_map_or (λ (e : Entry). e.number) o next)) (sym (cond-false (p y) (Some y) (find p ys) f)) (record {
+    by_test again false f = subst (λ o. IsLeast p (y ∷ ys) next (option_map_or (λ (e : LogEntry). e.number) o next)) (sym (cond-false (p y) (Some y) (find p ys) f)) (record {
       at_most_next = again.at_most_next;
       least = λ before x after e k. in_rest again before x after e k f;
       found = elim again.found [ inl e ↦ inl e | inr (before, x, after, e, k, q) ↦ inr (y ∷ before, x, after, ap (λ es. y ∷ es) e, k, q) ];
     })
       where
-        in_rest : IsLeast p ys next (option_map_or (λ (e : Entry). e.number) (find p ys) next) → (before : List Entry) (x : Entry) (after : List Entry) → y ∷ ys ≡ before ++ x ∷ after → p x ≡ true → p y ≡ false →
-            option_map_or (λ (e : Entry). e.number) (find p ys) next ≤ x.number
+        in_rest : IsLeast p ys next (option_map_or (λ (e : LogEntry). e.number) (find p ys) next) → (before : List LogEntry) (x : LogEntry) (after : List LogEntry) → y ∷ ys ≡ before ++ x ∷ after → p x ≡ true → p y ≡ false →
+            option_map_or (λ (e : LogEntry). e.number) (find p ys) next ≤ x.number
         in_rest again [] x after e k f = absurd (let head : y ≡ x = cc in both_ways _ f (subst (λ z. p z ≡ true) (sym head) k))
         in_rest again (z ∷ before) x after e k f = again.least before x after (cc) k
 
-pub low_is_least_open : (entries : List Entry) (n : ℕ) → IsNumberedFrom n entries → IsLeastOpen entries (n + length entries) (low_of entries (n + length entries))
+pub low_is_least_open : (entries : List LogEntry) (n : ℕ) → IsNumberedFrom n entries → IsLeastOpen entries (n + length entries) (low_of entries (n + length entries))
 unfolding low_of
 low_is_least_open entries n h =
     let is = least_found (λ entry. is_open entries (txn_of entry.content)) n entries (n + length entries) h refl in

@@ -11,7 +11,7 @@ use Rattle.cl_types.specs.declared.operations.TxnId.{TxnId}
 use Rattle.cl_log.specs.declared.records.LogRec.{LogRec}
 use Rattle.cl_log.specs.declared.stage.Stage.{Stage}
 use Rattle.cl_log.specs.declared.stage.Stage.TheVariants.{Unknown, Running, Prepared, Ended}
-use Rattle.cl_log.specs.Entry.{Entry, numbered}
+use Rattle.cl_log.specs.LogEntry.{LogEntry, numbered}
 use Rattle.cl_log.specs.Kind.{txn_of, is_of, opens, is_prepared, is_end}
 use Rattle.cl_log.specs.Open.{is_among, has_record, has_begun, has_prepared, has_ended, is_open, chain_of, with_txn, txns_of, unended_of, stage_of, low_of, is_under_way}
 use Rattle.cl_log.proofs.Numbered.{list_any-numbered, numbered_more, find-numbered, position_from-shift, position_from-agree}
@@ -24,23 +24,23 @@ or_false false = refl
 pub cong_and : {a b c d : Bool} → a ≡ b → c ≡ d → (a && c) ≡ (b && d)
 cong_and {a} {b} {c} {d} e f = ap (λ x. x && c) e ∙ ap (λ x. b && x) f
 
-numbers_of_one : (b : Bool) (entry : Entry) → map (λ (e : Entry). e.number) (cond b (entry ∷ []) []) ≡ cond b (entry.number ∷ []) []
+numbers_of_one : (b : Bool) (entry : LogEntry) → map (λ (e : LogEntry). e.number) (cond b (entry ∷ []) []) ≡ cond b (entry.number ∷ []) []
 numbers_of_one true entry = refl
 numbers_of_one false entry = refl
 
 -- a test of a log with one more record
-pub list_any_push : (p : Entry → Bool) (entries : List Entry) (entry : Entry) → list_any p (entries ++ entry ∷ []) ≡ (list_any p entries || p entry)
+pub list_any_push : (p : LogEntry → Bool) (entries : List LogEntry) (entry : LogEntry) → list_any p (entries ++ entry ∷ []) ≡ (list_any p entries || p entry)
 list_any_push p entries entry = list_any-append p entries (entry ∷ []) ∙ ap (λ b. list_any p entries || b) (or_false (p entry))
 
-pub has_begun_push : (txn : TxnId) (entries : List Entry) (entry : Entry) → has_begun (entries ++ entry ∷ []) txn ≡ (has_begun entries txn || (is_of txn entry.content && opens entry.content))
+pub has_begun_push : (txn : TxnId) (entries : List LogEntry) (entry : LogEntry) → has_begun (entries ++ entry ∷ []) txn ≡ (has_begun entries txn || (is_of txn entry.content && opens entry.content))
 unfolding has_begun
 has_begun_push txn entries entry = list_any_push _ entries entry
 
-pub has_prepared_push : (txn : TxnId) (entries : List Entry) (entry : Entry) → has_prepared (entries ++ entry ∷ []) txn ≡ (has_prepared entries txn || (is_of txn entry.content && is_prepared entry.content))
+pub has_prepared_push : (txn : TxnId) (entries : List LogEntry) (entry : LogEntry) → has_prepared (entries ++ entry ∷ []) txn ≡ (has_prepared entries txn || (is_of txn entry.content && is_prepared entry.content))
 unfolding has_prepared
 has_prepared_push txn entries entry = list_any_push _ entries entry
 
-pub has_ended_push : (txn : TxnId) (entries : List Entry) (entry : Entry) → has_ended (entries ++ entry ∷ []) txn ≡ (has_ended entries txn || (is_of txn entry.content && is_end entry.content))
+pub has_ended_push : (txn : TxnId) (entries : List LogEntry) (entry : LogEntry) → has_ended (entries ++ entry ∷ []) txn ≡ (has_ended entries txn || (is_of txn entry.content && is_end entry.content))
 unfolding has_ended
 has_ended_push txn entries entry = list_any_push _ entries entry
 
@@ -65,34 +65,34 @@ push_own test old own content h = ap (λ b. old || (b && test content)) h
 push_other : (test : LogRec → Bool) (old : Bool) (own : Bool) (content : LogRec) → own ≡ false → (old || (own && test content)) ≡ old
 push_other test old own content h = ap (λ b. old || (b && test content)) h ∙ or_false old
 
-pub has_begun_push-own : (txn : TxnId) (entries : List Entry) (entry : Entry) → is_of txn entry.content ≡ true → has_begun (entries ++ entry ∷ []) txn ≡ (has_begun entries txn || opens entry.content)
+pub has_begun_push-own : (txn : TxnId) (entries : List LogEntry) (entry : LogEntry) → is_of txn entry.content ≡ true → has_begun (entries ++ entry ∷ []) txn ≡ (has_begun entries txn || opens entry.content)
 has_begun_push-own txn entries entry h = has_begun_push txn entries entry ∙ push_own opens _ _ entry.content h
 
-pub has_begun_push-other : (txn : TxnId) (entries : List Entry) (entry : Entry) → is_of txn entry.content ≡ false → has_begun (entries ++ entry ∷ []) txn ≡ has_begun entries txn
+pub has_begun_push-other : (txn : TxnId) (entries : List LogEntry) (entry : LogEntry) → is_of txn entry.content ≡ false → has_begun (entries ++ entry ∷ []) txn ≡ has_begun entries txn
 has_begun_push-other txn entries entry h = has_begun_push txn entries entry ∙ push_other opens _ _ entry.content h
 
-pub has_prepared_push-own : (txn : TxnId) (entries : List Entry) (entry : Entry) → is_of txn entry.content ≡ true → has_prepared (entries ++ entry ∷ []) txn ≡ (has_prepared entries txn || is_prepared entry.content)
+pub has_prepared_push-own : (txn : TxnId) (entries : List LogEntry) (entry : LogEntry) → is_of txn entry.content ≡ true → has_prepared (entries ++ entry ∷ []) txn ≡ (has_prepared entries txn || is_prepared entry.content)
 has_prepared_push-own txn entries entry h = has_prepared_push txn entries entry ∙ push_own is_prepared _ _ entry.content h
 
-pub has_prepared_push-other : (txn : TxnId) (entries : List Entry) (entry : Entry) → is_of txn entry.content ≡ false → has_prepared (entries ++ entry ∷ []) txn ≡ has_prepared entries txn
+pub has_prepared_push-other : (txn : TxnId) (entries : List LogEntry) (entry : LogEntry) → is_of txn entry.content ≡ false → has_prepared (entries ++ entry ∷ []) txn ≡ has_prepared entries txn
 has_prepared_push-other txn entries entry h = has_prepared_push txn entries entry ∙ push_other is_prepared _ _ entry.content h
 
-pub has_ended_push-own : (txn : TxnId) (entries : List Entry) (entry : Entry) → is_of txn entry.content ≡ true → has_ended (entries ++ entry ∷ []) txn ≡ (has_ended entries txn || is_end entry.content)
+pub has_ended_push-own : (txn : TxnId) (entries : List LogEntry) (entry : LogEntry) → is_of txn entry.content ≡ true → has_ended (entries ++ entry ∷ []) txn ≡ (has_ended entries txn || is_end entry.content)
 has_ended_push-own txn entries entry h = has_ended_push txn entries entry ∙ push_own is_end _ _ entry.content h
 
-pub has_ended_push-other : (txn : TxnId) (entries : List Entry) (entry : Entry) → is_of txn entry.content ≡ false → has_ended (entries ++ entry ∷ []) txn ≡ has_ended entries txn
+pub has_ended_push-other : (txn : TxnId) (entries : List LogEntry) (entry : LogEntry) → is_of txn entry.content ≡ false → has_ended (entries ++ entry ∷ []) txn ≡ has_ended entries txn
 has_ended_push-other txn entries entry h = has_ended_push txn entries entry ∙ push_other is_end _ _ entry.content h
 
 -- a record of another transaction changes nothing of this one
-pub is_open_push-other : (txn : TxnId) (entries : List Entry) (entry : Entry) → is_of txn entry.content ≡ false → is_open (entries ++ entry ∷ []) txn ≡ is_open entries txn
+pub is_open_push-other : (txn : TxnId) (entries : List LogEntry) (entry : LogEntry) → is_of txn entry.content ≡ false → is_open (entries ++ entry ∷ []) txn ≡ is_open entries txn
 is_open_push-other txn entries entry h = cong_and (has_begun_push-other txn entries entry h) (ap not (has_ended_push-other txn entries entry h))
 
-pub is_open_push-own : (txn : TxnId) (entries : List Entry) (entry : Entry) → is_of txn entry.content ≡ true →
+pub is_open_push-own : (txn : TxnId) (entries : List LogEntry) (entry : LogEntry) → is_of txn entry.content ≡ true →
     is_open (entries ++ entry ∷ []) txn ≡ ((has_begun entries txn || opens entry.content) && not (has_ended entries txn || is_end entry.content))
 is_open_push-own txn entries entry h = cong_and (has_begun_push-own txn entries entry h) (ap not (has_ended_push-own txn entries entry h))
 
 -- a record that opens and ends nothing changes no transaction
-pub is_open_push-idle : (txn : TxnId) (entries : List Entry) (entry : Entry) → opens entry.content ≡ false → is_end entry.content ≡ false → is_open (entries ++ entry ∷ []) txn ≡ is_open entries txn
+pub is_open_push-idle : (txn : TxnId) (entries : List LogEntry) (entry : LogEntry) → opens entry.content ≡ false → is_end entry.content ≡ false → is_open (entries ++ entry ∷ []) txn ≡ is_open entries txn
 is_open_push-idle txn entries entry closed on =
     elim (cases_Bool (is_of txn entry.content)) [
       | inl t ↦ is_open_push-own txn entries entry t
@@ -101,7 +101,7 @@ is_open_push-idle txn entries entry closed on =
     ]
 
 -- a record that ends nothing changes no transaction that has begun
-pub is_open_push-begun : (txn : TxnId) (entries : List Entry) (entry : Entry) → has_begun entries txn ≡ true → is_end entry.content ≡ false → is_open (entries ++ entry ∷ []) txn ≡ is_open entries txn
+pub is_open_push-begun : (txn : TxnId) (entries : List LogEntry) (entry : LogEntry) → has_begun entries txn ≡ true → is_end entry.content ≡ false → is_open (entries ++ entry ∷ []) txn ≡ is_open entries txn
 is_open_push-begun txn entries entry begun on =
     elim (cases_Bool (is_of txn entry.content)) [
       | inl t ↦ is_open_push-own txn entries entry t
@@ -110,12 +110,12 @@ is_open_push-begun txn entries entry begun on =
     ]
 
 -- a transaction has ended once its End is there
-pub is_open_push-end : (txn : TxnId) (entries : List Entry) (entry : Entry) → is_of txn entry.content ≡ true → is_end entry.content ≡ true → is_open (entries ++ entry ∷ []) txn ≡ false
+pub is_open_push-end : (txn : TxnId) (entries : List LogEntry) (entry : LogEntry) → is_of txn entry.content ≡ true → is_end entry.content ≡ true → is_open (entries ++ entry ∷ []) txn ≡ false
 is_open_push-end txn entries entry own ended =
     is_open_push-own txn entries entry own ∙ and_right _ _ (not_from_true _ (or_right _ _ ended))
 
 -- a record that opens its transaction, which has not ended
-pub is_open_push-opens : (txn : TxnId) (entries : List Entry) (entry : Entry) → is_of txn entry.content ≡ true → opens entry.content ≡ true → is_end entry.content ≡ false → has_ended entries txn ≡ false →
+pub is_open_push-opens : (txn : TxnId) (entries : List LogEntry) (entry : LogEntry) → is_of txn entry.content ≡ true → opens entry.content ≡ true → is_end entry.content ≡ false → has_ended entries txn ≡ false →
     is_open (entries ++ entry ∷ []) txn ≡ true
 is_open_push-opens txn entries entry own opened on running =
     is_open_push-own txn entries entry own ∙ and_from _ _ (or_right _ _ opened) (not_from_false _ (ap (λ b. has_ended entries txn || b) on ∙ or_false _ ∙ running))
@@ -142,15 +142,15 @@ pub is_open-renumbered : (txn : TxnId) (m n : ℕ) (xs : List LogRec) → is_ope
 is_open-renumbered txn m n xs = cong_and (has_begun-renumbered txn m n xs) (ap not (has_ended-renumbered txn m n xs))
 
 -- the numbers of a transaction's records with one more record
-pub chain_of_push : (txn : TxnId) (entries : List Entry) (entry : Entry) → chain_of (entries ++ entry ∷ []) txn ≡ chain_of entries txn ++ cond (is_of txn entry.content) (entry.number ∷ []) []
+pub chain_of_push : (txn : TxnId) (entries : List LogEntry) (entry : LogEntry) → chain_of (entries ++ entry ∷ []) txn ≡ chain_of entries txn ++ cond (is_of txn entry.content) (entry.number ∷ []) []
 unfolding chain_of
 chain_of_push txn entries entry =
-    ap (map (λ (e : Entry). e.number)) (filter-append (λ (e : Entry). is_of txn e.content) entries (entry ∷ []))
-    ∙ map-append (λ (e : Entry). e.number) (filter (λ (e : Entry). is_of txn e.content) entries) (filter (λ (e : Entry). is_of txn e.content) (entry ∷ []))
-    ∙ ap (λ ns. map (λ (e : Entry). e.number) (filter (λ (e : Entry). is_of txn e.content) entries) ++ ns) (numbers_of_one (is_of txn entry.content) entry)
+    ap (map (λ (e : LogEntry). e.number)) (filter-append (λ (e : LogEntry). is_of txn e.content) entries (entry ∷ []))
+    ∙ map-append (λ (e : LogEntry). e.number) (filter (λ (e : LogEntry). is_of txn e.content) entries) (filter (λ (e : LogEntry). is_of txn e.content) (entry ∷ []))
+    ∙ ap (λ ns. map (λ (e : LogEntry). e.number) (filter (λ (e : LogEntry). is_of txn e.content) entries) ++ ns) (numbers_of_one (is_of txn entry.content) entry)
 
 -- the transactions of a log with one more record
-pub txns_of_push : (entries : List Entry) (entry : Entry) → txns_of (entries ++ entry ∷ []) ≡ with_txn (txns_of entries) entry
+pub txns_of_push : (entries : List LogEntry) (entry : LogEntry) → txns_of (entries ++ entry ∷ []) ≡ with_txn (txns_of entries) entry
 unfolding txns_of
 txns_of_push entries entry = fold_push with_txn [] entries entry
 
@@ -211,7 +211,7 @@ pub low_of-numbered : (n : ℕ) (xs : List LogRec) (next : ℕ) →
     low_of (numbered n xs) next ≡ option_map_or (λ place. n + place) (position_from (λ content. is_open (numbered 0 xs) (txn_of content)) 0 xs) next
 unfolding low_of
 low_of-numbered n xs next =
-    mapped (find (λ (e : Entry). is_open (numbered n xs) (txn_of e.content)) (numbered n xs)) next
+    mapped (find (λ (e : LogEntry). is_open (numbered n xs) (txn_of e.content)) (numbered n xs)) next
     ∙ ap (λ o. option_map_or (λ (k : ℕ). k) o next)
     (find-numbered (λ content. is_open (numbered n xs) (txn_of content)) n xs
     ∙ position_from-agree (λ content. is_open (numbered n xs) (txn_of content)) (λ content. is_open (numbered 0 xs) (txn_of content)) (λ content. is_open-renumbered (txn_of content) n 0 xs) n xs
@@ -219,7 +219,7 @@ low_of-numbered n xs next =
     ∙ position_from-shift (λ content. is_open (numbered 0 xs) (txn_of content)) n 0 xs)
     ∙ again n (position_from (λ content. is_open (numbered 0 xs) (txn_of content)) 0 xs) next
   where
-    mapped : (o : Option Entry) (next : ℕ) → option_map_or (λ (e : Entry). e.number) o next ≡ option_map_or (λ (k : ℕ). k) (option_map (λ (e : Entry). e.number) o) next
+    mapped : (o : Option LogEntry) (next : ℕ) → option_map_or (λ (e : LogEntry). e.number) o next ≡ option_map_or (λ (k : ℕ). k) (option_map (λ (e : LogEntry). e.number) o) next
     mapped None next = refl
     mapped (Some e) next = refl
 
@@ -232,7 +232,7 @@ pub low_of_place : (n : ℕ) (xs : List LogRec) (next : ℕ) (o : Option ℕ) �
 low_of_place n xs next o e = ap (λ o. option_map_or (λ place. n + place) o next) e ∙ sym (low_of-numbered n xs next)
 
 -- a transaction is open by its stage
-pub is_open-stage : (entries : List Entry) (txn : TxnId) → is_open entries txn ≡ is_under_way (stage_of entries txn)
+pub is_open-stage : (entries : List LogEntry) (txn : TxnId) → is_open entries txn ≡ is_under_way (stage_of entries txn)
 is_open-stage entries txn = by_parts (has_begun entries txn) (has_ended entries txn) (has_prepared entries txn)
   where
     by_parts : (begun ended prepared : Bool) → (begun && not ended) ≡ is_under_way (cond (not begun) Unknown (cond ended Ended (cond prepared Prepared Running)))
@@ -242,7 +242,7 @@ is_open-stage entries txn = by_parts (has_begun entries txn) (has_ended entries 
     by_parts true false false = refl
 
 -- the stage of another transaction stays
-pub stage_of_push-other : (txn : TxnId) (entries : List Entry) (entry : Entry) → is_of txn entry.content ≡ false → stage_of (entries ++ entry ∷ []) txn ≡ stage_of entries txn
+pub stage_of_push-other : (txn : TxnId) (entries : List LogEntry) (entry : LogEntry) → is_of txn entry.content ≡ false → stage_of (entries ++ entry ∷ []) txn ≡ stage_of entries txn
 stage_of_push-other txn entries entry h =
     let stage : Bool → Bool → Bool → Stage = λ begun ended prepared. cond (not begun) Unknown (cond ended Ended (cond prepared Prepared Running)) in
     ap (λ b. stage b (has_ended (entries ++ entry ∷ []) txn) (has_prepared (entries ++ entry ∷ []) txn)) (has_begun_push-other txn entries entry h)

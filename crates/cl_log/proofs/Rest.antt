@@ -9,7 +9,7 @@ use Rattle.cl_types.proofs.Transactions.{same_txn-true, same_txn-false}
 use Rattle.cl_log.specs.declared.records.LogRec.{LogRec}
 use Rattle.cl_log.specs.declared.records.LogRec.TheVariants.{Set, Add}
 use Rattle.cl_log.proofs.Entries.{IsNumberedFrom-append}
-use Rattle.cl_log.specs.Entry.{Entry, numbered, IsNumberedFrom, content_at}
+use Rattle.cl_log.specs.LogEntry.{LogEntry, numbered, IsNumberedFrom, content_at}
 use Rattle.cl_log.specs.Kind.{txn_of, is_of, can_be_undone, undoes}
 use Rattle.cl_log.specs.Rest.{is_undone, is_left_of, rest_to_undo, first_number, undo_of}
 use Rattle.cl_log.proofs.Numbered.{list_any-numbered, drop-numbered, content_at-entry}
@@ -20,24 +20,24 @@ unfolding is_undone
 is_undone-renumbered number m n xs = list_any-numbered (undoes number) m xs ∙ sym (list_any-numbered (undoes number) n xs)
 
 -- the rest from the last entry that passes
-first-reverse-filter : (p : Entry → Bool) (xs : List Entry) (x : Entry) (ys : List Entry) → p x ≡ true → filter p ys ≡ [] → first_number (reverse (filter p (xs ++ x ∷ ys))) ≡ Some x.number
+first-reverse-filter : (p : LogEntry → Bool) (xs : List LogEntry) (x : LogEntry) (ys : List LogEntry) → p x ≡ true → filter p ys ≡ [] → first_number (reverse (filter p (xs ++ x ∷ ys))) ≡ Some x.number
 first-reverse-filter p xs x ys h none =
     ap (λ es. first_number (reverse es))
     (filter-append p xs (x ∷ ys) ∙ ap (λ es. filter p xs ++ es) (ap (λ b. cond b (x ∷ filter p ys) (filter p ys)) h ∙ ap (λ es. x ∷ es) none))
     ∙ ap first_number (reverse-append (filter p xs) (x ∷ []))
 
 -- the last entry that is left to undo is the first of the rest
-pub first_of_rest : (entries : List Entry) (txn : TxnId) (xs : List Entry) (x : Entry) (ys : List Entry) → entries ≡ xs ++ x ∷ ys → is_left_of entries txn x ≡ true → filter (is_left_of entries txn) ys ≡ [] → first_number (rest_to_undo entries txn) ≡ Some x.number
+pub first_of_rest : (entries : List LogEntry) (txn : TxnId) (xs : List LogEntry) (x : LogEntry) (ys : List LogEntry) → entries ≡ xs ++ x ∷ ys → is_left_of entries txn x ≡ true → filter (is_left_of entries txn) ys ≡ [] → first_number (rest_to_undo entries txn) ≡ Some x.number
 unfolding rest_to_undo
 first_of_rest entries txn xs x ys e h none =
     ap (λ es. first_number (reverse (filter (is_left_of entries txn) es))) e ∙ first-reverse-filter (is_left_of entries txn) xs x ys h none
 
-pub first_of_no_rest : (entries : List Entry) (txn : TxnId) → filter (is_left_of entries txn) entries ≡ [] → first_number (rest_to_undo entries txn) ≡ None
+pub first_of_no_rest : (entries : List LogEntry) (txn : TxnId) → filter (is_left_of entries txn) entries ≡ [] → first_number (rest_to_undo entries txn) ≡ None
 unfolding rest_to_undo
 first_of_no_rest entries txn none = ap (λ es. first_number (reverse es)) none
 
 -- a walk from the end: nothing from the place on is left
-pub left_none : (entries : List Entry) (txn : TxnId) (place : ℕ) → place ≤ 0 → filter (is_left_of entries txn) (drop place entries) ≡ [] → first_number (rest_to_undo entries txn) ≡ None
+pub left_none : (entries : List LogEntry) (txn : TxnId) (place : ℕ) → place ≤ 0 → filter (is_left_of entries txn) (drop place entries) ≡ [] → first_number (rest_to_undo entries txn) ≡ None
 left_none entries txn zero h none = first_of_no_rest entries txn none
 left_none entries txn (suc place) h none = absurd (omega arith)
 
@@ -47,7 +47,7 @@ module _ (n place : ℕ) (xs : List LogRec) (x : LogRec) (txn : TxnId) (within :
       filter (is_left_of (numbered n xs) txn) (drop (place + 1) (numbered n xs)) ≡ [] → filter (is_left_of (numbered n xs) txn) (drop place (numbered n xs)) ≡ []
   left_step f none =
       ap (filter (is_left_of (numbered n xs) txn)) (drop-numbered n place xs x (omega arith) at)
-      ∙ ap (λ b. cond b ((let entry : Entry = record { number = n + place; content = x } in entry) ∷ filter (is_left_of (numbered n xs) txn) (drop (place + 1) (numbered n xs))) (filter (is_left_of (numbered n xs) txn) (drop (place + 1) (numbered n xs)))) f
+      ∙ ap (λ b. cond b ((let entry : LogEntry = record { number = n + place; content = x } in entry) ∷ filter (is_left_of (numbered n xs) txn) (drop (place + 1) (numbered n xs))) (filter (is_left_of (numbered n xs) txn) (drop (place + 1) (numbered n xs)))) f
       ∙ none
 
   pub left_found : is_left_of (numbered n xs) txn (record { number = n + place; content = x }) ≡ true →
@@ -57,18 +57,18 @@ module _ (n place : ℕ) (xs : List LogRec) (x : LogRec) (txn : TxnId) (within :
       (sym (take-append-drop place (numbered n xs)) ∙ ap (λ es. take place (numbered n xs) ++ es) (drop-numbered n place xs x (omega arith) at))
       t none
 
-pub is_undone_push : (number : ℕ) (entries : List Entry) (entry : Entry) → is_undone (entries ++ entry ∷ []) number ≡ (is_undone entries number || undoes number entry.content)
+pub is_undone_push : (number : ℕ) (entries : List LogEntry) (entry : LogEntry) → is_undone (entries ++ entry ∷ []) number ≡ (is_undone entries number || undoes number entry.content)
 unfolding is_undone
 is_undone_push number entries entry = list_any_push (λ e. undoes number e.content) entries entry
 
 -- a filter of a filter, and of a list from its end
-filter_both : (p q : Entry → Bool) (xs : List Entry) → filter (λ x. p x && q x) xs ≡ filter q (filter p xs)
+filter_both : (p q : LogEntry → Bool) (xs : List LogEntry) → filter (λ x. p x && q x) xs ≡ filter q (filter p xs)
 filter_both p q [] = refl
 filter_both p q (x ∷ xs) =
     elim (p x) as (λ b. cond (b && q x) (x ∷ filter (λ x. p x && q x) xs) (filter (λ x. p x && q x) xs) ≡ filter q (cond b (x ∷ filter p xs) (filter p xs)))
     [ true ↦ ap (λ es. cond (q x) (x ∷ es) es) (filter_both p q xs) | false ↦ filter_both p q xs ]
 
-filter-reverse : (q : Entry → Bool) (xs : List Entry) → filter q (reverse xs) ≡ reverse (filter q xs)
+filter-reverse : (q : LogEntry → Bool) (xs : List LogEntry) → filter q (reverse xs) ≡ reverse (filter q xs)
 filter-reverse q [] = refl
 filter-reverse q (x ∷ xs) =
     ap (filter q) (reverse-append (x ∷ []) xs)
@@ -78,7 +78,7 @@ filter-reverse q (x ∷ xs) =
     [ true ↦ sym (reverse-append (x ∷ []) (filter q xs)) | false ↦ append-nil (reverse (filter q xs)) ])
 
 -- with a record that is no compensation
-pub rest_to_undo_push-plain : (entries : List Entry) (entry : Entry) (txn : TxnId) → ((number : ℕ) → undoes number entry.content ≡ false) →
+pub rest_to_undo_push-plain : (entries : List LogEntry) (entry : LogEntry) (txn : TxnId) → ((number : ℕ) → undoes number entry.content ≡ false) →
     rest_to_undo (entries ++ entry ∷ []) txn ≡ cond (is_left_of entries txn entry) (entry ∷ rest_to_undo entries txn) (rest_to_undo entries txn)
 unfolding rest_to_undo
 rest_to_undo_push-plain entries entry txn plain =
@@ -99,17 +99,17 @@ unfolding rest_to_undo
 rest_to_undo-nil txn = refl
 
 -- with a write of the transaction that no compensation names
-pub rest_to_undo_push-write : (entries : List Entry) (entry : Entry) (txn : TxnId) → ((number : ℕ) → undoes number entry.content ≡ false) → is_left_of entries txn entry ≡ true →
+pub rest_to_undo_push-write : (entries : List LogEntry) (entry : LogEntry) (txn : TxnId) → ((number : ℕ) → undoes number entry.content ≡ false) → is_left_of entries txn entry ≡ true →
     rest_to_undo (entries ++ entry ∷ []) txn ≡ entry ∷ rest_to_undo entries txn
 rest_to_undo_push-write entries entry txn plain left = rest_to_undo_push-plain entries entry txn plain ∙ cond-true _ _ _ left
 
 -- with a record of another, or one that is no write
-pub rest_to_undo_push-other : (entries : List Entry) (entry : Entry) (txn : TxnId) → ((number : ℕ) → undoes number entry.content ≡ false) → is_left_of entries txn entry ≡ false →
+pub rest_to_undo_push-other : (entries : List LogEntry) (entry : LogEntry) (txn : TxnId) → ((number : ℕ) → undoes number entry.content ≡ false) → is_left_of entries txn entry ≡ false →
     rest_to_undo (entries ++ entry ∷ []) txn ≡ rest_to_undo entries txn
 rest_to_undo_push-other entries entry txn plain other = rest_to_undo_push-plain entries entry txn plain ∙ cond-false _ _ _ other
 
 -- with a compensation of a number
-pub rest_to_undo_push-undo : (entries : List Entry) (entry : Entry) (txn : TxnId) (undone : ℕ) → ((number : ℕ) → undoes number entry.content ≡ eqb undone number) → can_be_undone entry.content ≡ false →
+pub rest_to_undo_push-undo : (entries : List LogEntry) (entry : LogEntry) (txn : TxnId) (undone : ℕ) → ((number : ℕ) → undoes number entry.content ≡ eqb undone number) → can_be_undone entry.content ≡ false →
     rest_to_undo (entries ++ entry ∷ []) txn ≡ filter (λ x. not (eqb undone x.number)) (rest_to_undo entries txn)
 unfolding rest_to_undo
 rest_to_undo_push-undo entries entry txn undone names own =
@@ -133,24 +133,24 @@ rest_to_undo_push-undo entries entry txn undone names own =
     regroup true true false d = refl
 
 -- the first of a rest in its log
-pub record IsFirstOfRest (entries : List Entry) (txn : TxnId) (first : Entry) (others : List Entry) : Type 0 where
-  pub before : List Entry
-  pub after : List Entry
+pub record IsFirstOfRest (entries : List LogEntry) (txn : TxnId) (first : LogEntry) (others : List LogEntry) : Type 0 where
+  pub before : List LogEntry
+  pub after : List LogEntry
   pub whole : entries ≡ before ++ first ∷ after
   pub left : is_left_of entries txn first ≡ true
   pub none_after : filter (is_left_of entries txn) after ≡ []
   pub are_others : others ≡ reverse (filter (is_left_of entries txn) before)
 
-record SplitsAtLast (p : Entry → Bool) (xs : List Entry) (x : Entry) (r : List Entry) : Type 0 where
-  before : List Entry
-  after : List Entry
+record SplitsAtLast (p : LogEntry → Bool) (xs : List LogEntry) (x : LogEntry) (r : List LogEntry) : Type 0 where
+  before : List LogEntry
+  after : List LogEntry
   whole : xs ≡ before ++ x ∷ after
   passes : p x ≡ true
   none_after : filter p after ≡ []
   others : r ≡ reverse (filter p before)
 
 -- one more element in front, which fails or passes
-split_past : (p : Entry → Bool) (y : Entry) (ys : List Entry) (x : Entry) (r : List Entry) → p y ≡ false → SplitsAtLast p ys x r → SplitsAtLast p (y ∷ ys) x r
+split_past : (p : LogEntry → Bool) (y : LogEntry) (ys : List LogEntry) (x : LogEntry) (r : List LogEntry) → p y ≡ false → SplitsAtLast p ys x r → SplitsAtLast p (y ∷ ys) x r
 split_past p y ys x r f inner = record {
   before = y ∷ inner.before;
   after = inner.after;
@@ -160,7 +160,7 @@ split_past p y ys x r f inner = record {
   others = inner.others ∙ ap reverse (sym (cond-false _ (y ∷ filter p inner.before) (filter p inner.before) f));
 }
 
-split_longer : (p : Entry → Bool) (y : Entry) (ys : List Entry) (x : Entry) (r : List Entry) → p y ≡ true → SplitsAtLast p ys x r → SplitsAtLast p (y ∷ ys) x (r ++ y ∷ [])
+split_longer : (p : LogEntry → Bool) (y : LogEntry) (ys : List LogEntry) (x : LogEntry) (r : List LogEntry) → p y ≡ true → SplitsAtLast p ys x r → SplitsAtLast p (y ∷ ys) x (r ++ y ∷ [])
 split_longer p y ys x r t inner = record {
   before = y ∷ inner.before;
   after = inner.after;
@@ -172,18 +172,18 @@ split_longer p y ys x r t inner = record {
       ∙ ap reverse (sym (cond-true _ (y ∷ filter p inner.before) (filter p inner.before) t));
 }
 
-split_at_last : (p : Entry → Bool) (xs : List Entry) (x : Entry) (r : List Entry) → reverse (filter p xs) ≡ x ∷ r → SplitsAtLast p xs x r
-split_at_last p [] x r h = absurd (let e : ◌≡◌ {A = List Entry} [] (x ∷ r) = h in cc)
+split_at_last : (p : LogEntry → Bool) (xs : List LogEntry) (x : LogEntry) (r : List LogEntry) → reverse (filter p xs) ≡ x ∷ r → SplitsAtLast p xs x r
+split_at_last p [] x r h = absurd (let e : ◌≡◌ {A = List LogEntry} [] (x ∷ r) = h in cc)
 split_at_last p (y ∷ ys) x r h = by_head (split_at_last p ys) (p y) refl (reverse (filter p ys)) refl
   where
-    reversed : p y ≡ true → (zs : List Entry) → reverse (filter p ys) ≡ zs → zs ++ y ∷ [] ≡ x ∷ r
+    reversed : p y ≡ true → (zs : List LogEntry) → reverse (filter p ys) ≡ zs → zs ++ y ∷ [] ≡ x ∷ r
     reversed t zs e =
         ap (λ es. es ++ y ∷ []) (sym e) ∙ sym (reverse-append (y ∷ []) (filter p ys)) ∙ ap reverse (sym (cond-true _ (y ∷ filter p ys) (filter p ys) t)) ∙ h
 
-    by_head : ((x : Entry) (r : List Entry) → reverse (filter p ys) ≡ x ∷ r → SplitsAtLast p ys x r) → (b : Bool) → p y ≡ b → (zs : List Entry) → reverse (filter p ys) ≡ zs → SplitsAtLast p (y ∷ ys) x r
+    by_head : ((x : LogEntry) (r : List LogEntry) → reverse (filter p ys) ≡ x ∷ r → SplitsAtLast p ys x r) → (b : Bool) → p y ≡ b → (zs : List LogEntry) → reverse (filter p ys) ≡ zs → SplitsAtLast p (y ∷ ys) x r
     by_head again false f zs e = split_past p y ys x r f (again x r (sym (ap reverse (cond-false _ (y ∷ filter p ys) (filter p ys) f)) ∙ h))
     by_head again true t [] e =
-        let joined : ◌≡◌ {A = List Entry} (y ∷ []) (x ∷ r) = reversed t [] e in
+        let joined : ◌≡◌ {A = List LogEntry} (y ∷ []) (x ∷ r) = reversed t [] e in
         let head : y ≡ x = cc in
         let none : r ≡ [] = cc in
         record {
@@ -195,26 +195,26 @@ split_at_last p (y ∷ ys) x r h = by_head (split_at_last p ys) (p y) refl (reve
           others = none;
         }
     by_head again true t (z ∷ zs) e =
-        let joined : ◌≡◌ {A = List Entry} (z ∷ (zs ++ y ∷ [])) (x ∷ r) = reversed t (z ∷ zs) e in
+        let joined : ◌≡◌ {A = List LogEntry} (z ∷ (zs ++ y ∷ [])) (x ∷ r) = reversed t (z ∷ zs) e in
         let head : z ≡ x = cc in
         let tail : zs ++ y ∷ [] ≡ r = cc in
         subst (SplitsAtLast p (y ∷ ys) x) tail (split_longer p y ys x zs t (again x zs (e ∙ ap (λ w. w ∷ zs) head)))
 
-pub first_of_rest_is : (entries : List Entry) (txn : TxnId) (first : Entry) (others : List Entry) → rest_to_undo entries txn ≡ first ∷ others → IsFirstOfRest entries txn first others
+pub first_of_rest_is : (entries : List LogEntry) (txn : TxnId) (first : LogEntry) (others : List LogEntry) → rest_to_undo entries txn ≡ first ∷ others → IsFirstOfRest entries txn first others
 unfolding rest_to_undo
 first_of_rest_is entries txn first others h =
     let s = split_at_last (is_left_of entries txn) entries first others h in
     record { before = s.before; after = s.after; whole = s.whole; left = s.passes; none_after = s.none_after; are_others = s.others }
 
 -- what a transaction's rest begins with
-pub record HeadsRest (entries : List Entry) (txn : TxnId) (first : Entry) (others : List Entry) : Type 0 where
+pub record HeadsRest (entries : List LogEntry) (txn : TxnId) (first : LogEntry) (others : List LogEntry) : Type 0 where
   pub rest : rest_to_undo entries txn ≡ first ∷ others
   pub own : is_of txn first.content ≡ true
   pub undoable : can_be_undone first.content ≡ true
   pub not_undone : is_undone entries first.number ≡ false
   pub content : content_at entries first.number ≡ Some first.content
 
-pub HeadsRest-from : (n : ℕ) (entries : List Entry) (txn : TxnId) (first : Entry) (others : List Entry) → IsNumberedFrom n entries → rest_to_undo entries txn ≡ first ∷ others → HeadsRest entries txn first others
+pub HeadsRest-from : (n : ℕ) (entries : List LogEntry) (txn : TxnId) (first : LogEntry) (others : List LogEntry) → IsNumberedFrom n entries → rest_to_undo entries txn ≡ first ∷ others → HeadsRest entries txn first others
 HeadsRest-from n entries txn first others numbers rest =
     let is = first_of_rest_is entries txn first others rest in
     let parts = and_parts _ _ is.left in
@@ -228,26 +228,26 @@ HeadsRest-from n entries txn first others numbers rest =
     }
 
 -- the entry of a number that `first_number` gives
-pub heads_of_number : (n : ℕ) (entries : List Entry) (txn : TxnId) (number : ℕ) → IsNumberedFrom n entries → first_number (rest_to_undo entries txn) ≡ Some number →
-    (first : Entry) × (others : List Entry) × (first.number ≡ number) × HeadsRest entries txn first others
+pub heads_of_number : (n : ℕ) (entries : List LogEntry) (txn : TxnId) (number : ℕ) → IsNumberedFrom n entries → first_number (rest_to_undo entries txn) ≡ Some number →
+    (first : LogEntry) × (others : List LogEntry) × (first.number ≡ number) × HeadsRest entries txn first others
 heads_of_number n entries txn number numbers h = by_list (rest_to_undo entries txn) refl
   where
-    by_list : (es : List Entry) → rest_to_undo entries txn ≡ es → (first : Entry) × (others : List Entry) × (first.number ≡ number) × HeadsRest entries txn first others
+    by_list : (es : List LogEntry) → rest_to_undo entries txn ≡ es → (first : LogEntry) × (others : List LogEntry) × (first.number ≡ number) × HeadsRest entries txn first others
     by_list [] e = absurd (let q : ◌≡◌ {A = Option ℕ} None (Some number) = sym (ap first_number e) ∙ h in cc)
     by_list (first ∷ others) e =
         let q : ◌≡◌ {A = Option ℕ} (Some first.number) (Some number) = sym (ap first_number e) ∙ h in
         (first, others, cc, HeadsRest-from n entries txn first others numbers e)
 
 -- nothing is left where there is no first number
-pub nil_of_no_number : (entries : List Entry) (txn : TxnId) → first_number (rest_to_undo entries txn) ≡ None → rest_to_undo entries txn ≡ []
+pub nil_of_no_number : (entries : List LogEntry) (txn : TxnId) → first_number (rest_to_undo entries txn) ≡ None → rest_to_undo entries txn ≡ []
 nil_of_no_number entries txn h = by_list (rest_to_undo entries txn) refl
   where
-    by_list : (es : List Entry) → rest_to_undo entries txn ≡ es → rest_to_undo entries txn ≡ []
+    by_list : (es : List LogEntry) → rest_to_undo entries txn ≡ es → rest_to_undo entries txn ≡ []
     by_list [] e = e
     by_list (first ∷ others) e = absurd (let q : ◌≡◌ {A = Option ℕ} (Some first.number) None = sym (ap first_number e) ∙ h in cc)
 
 -- a filter that keeps all numbers below, or above
-kept_below : (p q : Entry → Bool) (n bound : ℕ) (xs : List Entry) → IsNumberedFrom n xs → n + length xs ≤ bound → ((x : Entry) → x.number < bound → q x ≡ true) → filter q (filter p xs) ≡ filter p xs
+kept_below : (p q : LogEntry → Bool) (n bound : ℕ) (xs : List LogEntry) → IsNumberedFrom n xs → n + length xs ≤ bound → ((x : LogEntry) → x.number < bound → q x ≡ true) → filter q (filter p xs) ≡ filter p xs
 kept_below p q n bound [] h l k = refl
 kept_below p q n bound (x ∷ xs) h l k =
     elim (p x) as (λ b. filter q (cond b (x ∷ filter p xs) (filter p xs)) ≡ cond b (x ∷ filter p xs) (filter p xs)) [
@@ -255,7 +255,7 @@ kept_below p q n bound (x ∷ xs) h l k =
       | false ↦ kept_below p q (n + 1) bound xs h.1 (omega arith) k
     ]
 
-kept_above : (p q : Entry → Bool) (n bound : ℕ) (xs : List Entry) → IsNumberedFrom n xs → bound < n → ((x : Entry) → bound < x.number → q x ≡ true) → filter q (filter p xs) ≡ filter p xs
+kept_above : (p q : LogEntry → Bool) (n bound : ℕ) (xs : List LogEntry) → IsNumberedFrom n xs → bound < n → ((x : LogEntry) → bound < x.number → q x ≡ true) → filter q (filter p xs) ≡ filter p xs
 kept_above p q n bound [] h l k = refl
 kept_above p q n bound (x ∷ xs) h l k =
     elim (p x) as (λ b. filter q (cond b (x ∷ filter p xs) (filter p xs)) ≡ cond b (x ∷ filter p xs) (filter p xs)) [
@@ -275,12 +275,12 @@ can_be_undone-undo_of (Add txn table key before amount) number now h = refl
 can_be_undone-undo_of content number now h = absurd (false≢true h)
 
 -- a rest without the number of an entry that is not in it
-rest-without : (entries : List Entry) (txn : TxnId) (n : ℕ) → IsNumberedFrom n entries → (entry : Entry) (before after : List Entry) → entries ≡ before ++ entry ∷ after → is_left_of entries txn entry ≡ false →
+rest-without : (entries : List LogEntry) (txn : TxnId) (n : ℕ) → IsNumberedFrom n entries → (entry : LogEntry) (before after : List LogEntry) → entries ≡ before ++ entry ∷ after → is_left_of entries txn entry ≡ false →
     filter (λ x. not (eqb entry.number x.number)) (rest_to_undo entries txn) ≡ rest_to_undo entries txn
 unfolding rest_to_undo
 rest-without entries txn n numbers entry before after whole skips =
     let parts = IsNumberedFrom-append n before (entry ∷ after) (subst (IsNumberedFrom n) whole numbers) in
-    let q = λ (x : Entry). not (eqb entry.number x.number) in
+    let q = λ (x : LogEntry). not (eqb entry.number x.number) in
     let p = is_left_of entries txn in
     let all : filter p entries ≡ filter p before ++ filter p after =
     ap (filter p) whole ∙ filter-append p before (entry ∷ after) ∙ ap (λ es. filter p before ++ es) (cond-false _ _ _ skips) in
@@ -295,8 +295,8 @@ rest-without entries txn n numbers entry before after whole skips =
     ∙ sym all)
 
 -- an undo step: the compensation of the first of the rest is appended
-module _ (entries : List Entry) (n : ℕ) (numbers : IsNumberedFrom n entries) (txn : TxnId) (first : Entry) (others : List Entry)
-    (rest : rest_to_undo entries txn ≡ first ∷ others) (entry : Entry) (now : ℕ) (is_undo : entry.content ≡ undo_of first.content first.number now) where
+module _ (entries : List LogEntry) (n : ℕ) (numbers : IsNumberedFrom n entries) (txn : TxnId) (first : LogEntry) (others : List LogEntry)
+    (rest : rest_to_undo entries txn ≡ first ∷ others) (entry : LogEntry) (now : ℕ) (is_undo : entry.content ≡ undo_of first.content first.number now) where
   undoable : can_be_undone first.content ≡ true
   undoable = (and_parts _ _ (and_parts _ _ (first_of_rest_is entries txn first others rest).left).1).0
 
@@ -310,7 +310,7 @@ module _ (entries : List Entry) (n : ℕ) (numbers : IsNumberedFrom n entries) (
   rest_after_undo =
       let is = first_of_rest_is entries txn first others rest in
       let parts = IsNumberedFrom-append n is.before (first ∷ is.after) (subst (IsNumberedFrom n) is.whole numbers) in
-      let q = λ (x : Entry). not (eqb first.number x.number) in
+      let q = λ (x : LogEntry). not (eqb first.number x.number) in
       rest_to_undo_push-undo entries entry txn first.number names_first own
       ∙ ap (filter q) rest
       ∙ cond-false _ _ _ (not_from_true _ (eq-eqb first.number first.number refl))

@@ -12,7 +12,7 @@ use Rattle.cl_types.proofs.Transactions.{same_txn-true, same_txn-itself}
 use Rattle.cl_types.specs.Places.{Place, Stored}
 use Rattle.cl_types.specs.Transactions.{same_txn}
 use Rattle.cl_log.specs.declared.records.LogRec.TheVariants.{Set}
-use Rattle.cl_log.specs.Entry.{Entry, IsNumberedFrom}
+use Rattle.cl_log.specs.LogEntry.{LogEntry, IsNumberedFrom}
 use Rattle.cl_log.specs.Kind.{txn_of, is_of, opens, is_end, is_mark, can_be_undone, undoes, writes}
 use Rattle.cl_log.specs.Locks.{locks_of_log, HasNoConflict}
 use Rattle.cl_log.specs.Open.{has_begun, has_ended, is_open, is_among}
@@ -30,11 +30,11 @@ Value : Type 0
 Value = Option (List ℕ)
 
 -- the value at a place after undoing those entries that pass, last first
-abbrev undone : (Entry → Bool) → Place → Option (List ℕ) → List Entry → Option (List ℕ)
+abbrev undone : (LogEntry → Bool) → Place → Option (List ℕ) → List LogEntry → Option (List ℕ)
 undone p place value [] = value
 undone p place value (x ∷ xs) = cond (p x) (undone_at place (undone p place value xs) x) (undone p place value xs)
 
-undone-is : (p : Entry → Bool) (place : Place) (value : Option (List ℕ)) (xs : List Entry) → fold (undone_at place) value (reverse (filter p xs)) ≡ undone p place value xs
+undone-is : (p : LogEntry → Bool) (place : Place) (value : Option (List ℕ)) (xs : List LogEntry) → fold (undone_at place) value (reverse (filter p xs)) ≡ undone p place value xs
 undone-is p place value [] = refl
 undone-is p place value (x ∷ xs) =
     elim (p x) as (λ b. fold (undone_at place) value (reverse (cond b (x ∷ filter p xs) (filter p xs))) ≡ cond b (undone_at place (undone p place value xs) x) (undone p place value xs)) [
@@ -45,12 +45,12 @@ undone-is p place value (x ∷ xs) =
       | false ↦ undone-is p place value xs
     ]
 
-undone-append : (p : Entry → Bool) (place : Place) (value : Option (List ℕ)) (xs ys : List Entry) → undone p place value (xs ++ ys) ≡ undone p place (undone p place value ys) xs
+undone-append : (p : LogEntry → Bool) (place : Place) (value : Option (List ℕ)) (xs ys : List LogEntry) → undone p place value (xs ++ ys) ≡ undone p place (undone p place value ys) xs
 undone-append p place value [] ys = refl
 undone-append p place value (x ∷ xs) ys = ap (λ v. cond (p x) (undone_at place v x) v) (undone-append p place value xs ys)
 
 -- what is written elsewhere leaves the value
-undone_at-other : (place : Place) (value : Option (List ℕ)) (x : Entry) → writes place x.content ≡ false → undone_at place value x ≡ value
+undone_at-other : (place : Place) (value : Option (List ℕ)) (x : LogEntry) → writes place x.content ≡ false → undone_at place value x ≡ value
 undone_at-other place value x h = cond-false _ _ _ h
 
 cond_same : (b : Bool) (value : Option (List ℕ)) → cond b value value ≡ value
@@ -58,8 +58,8 @@ cond_same true value = refl
 cond_same false value = refl
 
 -- two tests that agree at the entries that write there
-undone-agree : (p q : Entry → Bool) (place : Place) (value : Option (List ℕ)) (xs : List Entry) →
-    ((before : List Entry) (x : Entry) (after : List Entry) → xs ≡ before ++ x ∷ after → writes place x.content ≡ true → p x ≡ q x) →
+undone-agree : (p q : LogEntry → Bool) (place : Place) (value : Option (List ℕ)) (xs : List LogEntry) →
+    ((before : List LogEntry) (x : LogEntry) (after : List LogEntry) → xs ≡ before ++ x ∷ after → writes place x.content ≡ true → p x ≡ q x) →
     undone p place value xs ≡ undone q place value xs
 undone-agree p q place value [] h = refl
 undone-agree p q place value (x ∷ xs) h =
@@ -73,12 +73,12 @@ undone-agree p q place value (x ∷ xs) h =
     ])
 
 -- where none that writes there passes, the value stays
-undone-none : (p : Entry → Bool) (place : Place) (value : Option (List ℕ)) (xs : List Entry) →
-    ((before : List Entry) (x : Entry) (after : List Entry) → xs ≡ before ++ x ∷ after → writes place x.content ≡ true → p x ≡ false) →
+undone-none : (p : LogEntry → Bool) (place : Place) (value : Option (List ℕ)) (xs : List LogEntry) →
+    ((before : List LogEntry) (x : LogEntry) (after : List LogEntry) → xs ≡ before ++ x ∷ after → writes place x.content ≡ true → p x ≡ false) →
     undone p place value xs ≡ value
 undone-none p place value xs h = undone-agree p (λ _. false) place value xs h ∙ all_fail xs
   where
-    all_fail : (xs : List Entry) → undone (λ _. false) place value xs ≡ value
+    all_fail : (xs : List LogEntry) → undone (λ _. false) place value xs ≡ value
     all_fail [] = refl
     all_fail (x ∷ xs) = all_fail xs
 
@@ -87,32 +87,32 @@ and_true true = refl
 and_true false = refl
 
 -- the settled map, by what is undone
-pub settled-undone : (entries : List Entry) (history : List TxnId) (place : Place) →
+pub settled-undone : (entries : List LogEntry) (history : List TxnId) (place : Place) →
     settled entries history place ≡ undone (is_unsettled entries history) place (store_of_log entries place).1 entries
 unfolding settled unsettled
 settled-undone entries history place = undone-is (is_unsettled entries history) place (store_of_log entries place).1 entries
 
 -- where nothing passes, no entry does
-pub none_at : (p : Entry → Bool) (before : List Entry) (x : Entry) (after : List Entry) → filter p (before ++ x ∷ after) ≡ [] → p x ≡ false
+pub none_at : (p : LogEntry → Bool) (before : List LogEntry) (x : LogEntry) (after : List LogEntry) → filter p (before ++ x ∷ after) ≡ [] → p x ≡ false
 none_at p [] x after h =
-    false_from_ne_true (p x) (λ t. let e : ◌≡◌ {A = List Entry} (x ∷ filter p after) [] = sym (cond-true _ _ _ t) ∙ h in absurd_cons e)
+    false_from_ne_true (p x) (λ t. let e : ◌≡◌ {A = List LogEntry} (x ∷ filter p after) [] = sym (cond-true _ _ _ t) ∙ h in absurd_cons e)
   where
-    absurd_cons : ◌≡◌ {A = List Entry} (x ∷ filter p after) [] → ⊥
+    absurd_cons : ◌≡◌ {A = List LogEntry} (x ∷ filter p after) [] → ⊥
     absurd_cons e = cc
 none_at p (y ∷ before) x after h = none_at p before x after (tail_nil (p y) refl)
   where
     tail_nil : (b : Bool) → p y ≡ b → filter p (before ++ x ∷ after) ≡ []
-    tail_nil true t = absurd (let e : ◌≡◌ {A = List Entry} (y ∷ filter p (before ++ x ∷ after)) [] = sym (cond-true _ _ _ t) ∙ h in cc)
+    tail_nil true t = absurd (let e : ◌≡◌ {A = List LogEntry} (y ∷ filter p (before ++ x ∷ after)) [] = sym (cond-true _ _ _ t) ∙ h in cc)
     tail_nil false f = sym (cond-false _ _ _ f) ∙ h
 
-pub has_begun-at : (before : List Entry) (x : Entry) (after : List Entry) → opens x.content ≡ true → has_begun (before ++ x ∷ after) (txn_of x.content) ≡ true
+pub has_begun-at : (before : List LogEntry) (x : LogEntry) (after : List LogEntry) → opens x.content ≡ true → has_begun (before ++ x ∷ after) (txn_of x.content) ≡ true
 unfolding has_begun
 has_begun-at before x after h =
-    list_any-append (λ (e : Entry). is_of (txn_of x.content) e.content && opens e.content) before (x ∷ after)
+    list_any-append (λ (e : LogEntry). is_of (txn_of x.content) e.content && opens e.content) before (x ∷ after)
     ∙ or_right _ _ (or_left _ _ (and_from _ _ (same_txn-itself (txn_of x.content)) h))
 
 -- an entry is as unsettled as it was, where as much is undone and its transaction is as open
-unsettled-same : (old new : List Entry) (history : List TxnId) (x : Entry) → is_undone new x.number ≡ is_undone old x.number →
+unsettled-same : (old new : List LogEntry) (history : List TxnId) (x : LogEntry) → is_undone new x.number ≡ is_undone old x.number →
     (can_be_undone x.content ≡ true → is_open new (txn_of x.content) ≡ is_open old (txn_of x.content)) → is_unsettled new history x ≡ is_unsettled old history x
 unsettled-same old new history x undone open_as = by_kind (can_be_undone x.content) refl
   where
@@ -126,8 +126,8 @@ unsettled-same old new history x undone open_as = by_kind (can_be_undone x.conte
     by_kind false f = and_left _ _ (and_left _ _ f) ∙ sym (and_left _ _ (and_left _ _ f))
 
 -- with a record that ends nothing and names nothing as undone, each entry before it is as unsettled as it was
-unsettled-kept : (entries : List Entry) (entry : Entry) (history : List TxnId) → is_end entry.content ≡ false → ((number : ℕ) → undoes number entry.content ≡ false) →
-    (before : List Entry) (x : Entry) (after : List Entry) → entries ≡ before ++ x ∷ after →
+unsettled-kept : (entries : List LogEntry) (entry : LogEntry) (history : List TxnId) → is_end entry.content ≡ false → ((number : ℕ) → undoes number entry.content ≡ false) →
+    (before : List LogEntry) (x : LogEntry) (after : List LogEntry) → entries ≡ before ++ x ∷ after →
     is_unsettled (entries ++ entry ∷ []) history x ≡ is_unsettled entries history x
 unsettled-kept entries entry history on plain before x after e =
     unsettled-same entries (entries ++ entry ∷ []) history x
@@ -136,7 +136,7 @@ unsettled-kept entries entry history on plain before x after e =
     (ap (λ es. has_begun es (txn_of x.content)) e ∙ has_begun-at before x after (can_be_undone-opens x.content h)) on)
 
 -- the settled map with one more record
-settled_push : (entries : List Entry) (entry : Entry) (history : List TxnId) (place : Place) →
+settled_push : (entries : List LogEntry) (entry : LogEntry) (history : List TxnId) (place : Place) →
     let passes = is_unsettled (entries ++ entry ∷ []) history in
     let value = (store_of_log (entries ++ entry ∷ []) place).1 in
     settled (entries ++ entry ∷ []) history place ≡ undone passes place (cond (passes entry) (undone_at place value entry) value) entries
@@ -145,17 +145,17 @@ settled_push entries entry history place =
     ∙ undone-append (is_unsettled (entries ++ entry ∷ []) history) place (store_of_log (entries ++ entry ∷ []) place).1 entries (entry ∷ [])
 
 -- one that cannot be undone itself
-settled_push-fixed : (entries : List Entry) (entry : Entry) (history : List TxnId) (place : Place) → can_be_undone entry.content ≡ false →
+settled_push-fixed : (entries : List LogEntry) (entry : LogEntry) (history : List TxnId) (place : Place) → can_be_undone entry.content ≡ false →
     settled (entries ++ entry ∷ []) history place ≡ undone (is_unsettled (entries ++ entry ∷ []) history) place (store_of_log (entries ++ entry ∷ []) place).1 entries
 settled_push-fixed entries entry history place h =
     settled_push entries entry history place
     ∙ ap (λ v. undone (is_unsettled (entries ++ entry ∷ []) history) place v entries) (cond-false _ _ _ (and_left _ _ (and_left _ _ h)))
 
-value_of_other : (entries : List Entry) (entry : Entry) (place : Place) → writes place entry.content ≡ false → (store_of_log (entries ++ entry ∷ []) place).1 ≡ (store_of_log entries place).1
+value_of_other : (entries : List LogEntry) (entry : LogEntry) (place : Place) → writes place entry.content ≡ false → (store_of_log (entries ++ entry ∷ []) place).1 ≡ (store_of_log entries place).1
 value_of_other entries entry place h = ap (λ (q : Stored). q.1) (store_of_log_other entries entry place h)
 
 -- a Touch, Prepared or Decide leaves the settled map
-pub settled_after_mark : (entries : List Entry) (entry : Entry) (history : List TxnId) (place : Place) → is_mark entry.content ≡ true →
+pub settled_after_mark : (entries : List LogEntry) (entry : LogEntry) (history : List TxnId) (place : Place) → is_mark entry.content ≡ true →
     settled (entries ++ entry ∷ []) history place ≡ settled entries history place
 settled_after_mark entries entry history place h =
     settled_push-fixed entries entry history place (mark_undoable entry.content h)
@@ -165,7 +165,7 @@ settled_after_mark entries entry history place h =
     ∙ sym (settled-undone entries history place)
 
 -- a write of a running transaction that is not in the history leaves the settled map
-pub settled_after_write : (entries : List Entry) (entry : Entry) (history : List TxnId) (place : Place) → can_be_undone entry.content ≡ true →
+pub settled_after_write : (entries : List LogEntry) (entry : LogEntry) (history : List TxnId) (place : Place) → can_be_undone entry.content ≡ true →
     has_ended entries (txn_of entry.content) ≡ false → is_among (txn_of entry.content) history ≡ false → is_undone entries entry.number ≡ false → IsReversible entries entry.content →
     settled (entries ++ entry ∷ []) history place ≡ settled entries history place
 settled_after_write entries entry history place h running out fresh reversible =
@@ -187,14 +187,14 @@ settled_after_write entries entry history place h running out fresh reversible =
     back false f = cond-false _ _ _ f ∙ value_of_other entries entry place f
 
 -- nothing is left of a transaction with no rest
-none_left : (entries : List Entry) (txn : TxnId) → rest_to_undo entries txn ≡ [] → (before : List Entry) (x : Entry) (after : List Entry) → entries ≡ before ++ x ∷ after → is_left_of entries txn x ≡ false
+none_left : (entries : List LogEntry) (txn : TxnId) → rest_to_undo entries txn ≡ [] → (before : List LogEntry) (x : LogEntry) (after : List LogEntry) → entries ≡ before ++ x ∷ after → is_left_of entries txn x ≡ false
 unfolding rest_to_undo
 none_left entries txn none before x after e =
     let empty : filter (is_left_of entries txn) entries ≡ [] = sym (reverse-reverse (filter (is_left_of entries txn) entries)) ∙ ap reverse none in
     none_at (is_left_of entries txn) before x after (sym (ap (filter (is_left_of entries txn)) e) ∙ empty)
 
 -- an End of a transaction of the history, or of one with nothing left to undo, leaves the settled map
-pub settled_after_end : (entries : List Entry) (entry : Entry) (history : List TxnId) (place : Place) → is_end entry.content ≡ true →
+pub settled_after_end : (entries : List LogEntry) (entry : LogEntry) (history : List TxnId) (place : Place) → is_end entry.content ≡ true →
     (is_among (txn_of entry.content) history ≡ true) ⊎ (rest_to_undo entries (txn_of entry.content) ≡ []) →
     settled (entries ++ entry ∷ []) history place ≡ settled entries history place
 settled_after_end entries entry history place h settles =
@@ -203,7 +203,7 @@ settled_after_end entries entry history place h settles =
     ∙ undone-agree _ (is_unsettled entries history) place _ entries (λ before x after e w. same before x after e (is_of (txn_of x.content) entry.content) refl)
     ∙ sym (settled-undone entries history place)
   where
-    not_left : (before : List Entry) (x : Entry) (after : List Entry) → entries ≡ before ++ x ∷ after → txn_of entry.content ≡ txn_of x.content → is_unsettled entries history x ≡ false
+    not_left : (before : List LogEntry) (x : LogEntry) (after : List LogEntry) → entries ≡ before ++ x ∷ after → txn_of entry.content ≡ txn_of x.content → is_unsettled entries history x ≡ false
     not_left before x after e own =
         elim settles [
           | inl member ↦ and_right _ _ (and_right _ _ (not_from_true _ (ap (λ t. is_among t history) (sym own) ∙ member)))
@@ -212,7 +212,7 @@ settled_after_end entries entry history place h settles =
               ∙ none_left entries (txn_of entry.content) none before x after e)
         ]
 
-    same : (before : List Entry) (x : Entry) (after : List Entry) → entries ≡ before ++ x ∷ after → (b : Bool) → is_of (txn_of x.content) entry.content ≡ b →
+    same : (before : List LogEntry) (x : LogEntry) (after : List LogEntry) → entries ≡ before ++ x ∷ after → (b : Bool) → is_of (txn_of x.content) entry.content ≡ b →
         is_unsettled (entries ++ entry ∷ []) history x ≡ is_unsettled entries history x
     same before x after e true t =
         and_right _ _ (and_left _ _ (is_open_push-end (txn_of x.content) entries entry t h))
@@ -223,7 +223,7 @@ settled_after_end entries entry history place h settles =
         (λ k. is_open_push-other (txn_of x.content) entries entry f)
 
 -- an unsettled entry is of an open transaction, which locks its place exclusively
-unsettled-locks : (entries : List Entry) (history : List TxnId) (place : Place) (before : List Entry) (x : Entry) (after : List Entry) → entries ≡ before ++ x ∷ after →
+unsettled-locks : (entries : List LogEntry) (history : List TxnId) (place : Place) (before : List LogEntry) (x : LogEntry) (after : List LogEntry) → entries ≡ before ++ x ∷ after →
     is_unsettled entries history x ≡ true → writes place x.content ≡ true → locks_of_log entries (txn_of x.content) place ≡ Some Exclusive
 unsettled-locks entries history place before x after e passes here =
     let parts = and_parts _ _ passes in
@@ -232,8 +232,8 @@ unsettled-locks entries history place before x after e passes here =
     ∙ locks_of_log-write before x after (txn_of x.content) place (sym (ap (λ es. is_open es (txn_of x.content)) e) ∙ opened) (same_txn-itself (txn_of x.content)) (and_parts _ _ parts.0).0 here
 
 -- an undo step: the compensation of the first of the rest of an open transaction that is not in the history is appended
-module _ (entries : List Entry) (n : ℕ) (numbers : IsNumberedFrom n entries) (txn : TxnId) (first : Entry) (others : List Entry)
-    (rest : rest_to_undo entries txn ≡ first ∷ others) (entry : Entry) (now : ℕ) (is_undo : entry.content ≡ undo_of first.content first.number now)
+module _ (entries : List LogEntry) (n : ℕ) (numbers : IsNumberedFrom n entries) (txn : TxnId) (first : LogEntry) (others : List LogEntry)
+    (rest : rest_to_undo entries txn ≡ first ∷ others) (entry : LogEntry) (now : ℕ) (is_undo : entry.content ≡ undo_of first.content first.number now)
     (history : List TxnId) (opened : is_open entries txn ≡ true) (out : is_among txn history ≡ false) (apart : HasNoConflict entries) (place : Place) where
   left_is : IsFirstOfRest entries txn first others
   left_is = first_of_rest_is entries txn first others rest
@@ -245,7 +245,7 @@ module _ (entries : List Entry) (n : ℕ) (numbers : IsNumberedFrom n entries) (
   undoable = (and_parts _ _ (and_parts _ _ left_is.left).1).0
 
   -- all stays as unsettled as it was but the first of the rest
-  unsettled_then : (x : Entry) → is_unsettled (entries ++ entry ∷ []) history x ≡ (is_unsettled entries history x && not (eqb first.number x.number))
+  unsettled_then : (x : LogEntry) → is_unsettled (entries ++ entry ∷ []) history x ≡ (is_unsettled entries history x && not (eqb first.number x.number))
   unsettled_then x =
       ap (λ b. (can_be_undone x.content && not b) && (is_open (entries ++ entry ∷ []) (txn_of x.content) && not (is_among (txn_of x.content) history)))
       (is_undone_push x.number entries entry ∙ ap (λ b. is_undone entries x.number || b) (names_first entries n numbers txn first others rest entry now is_undo x.number))
@@ -264,7 +264,7 @@ module _ (entries : List Entry) (n : ℕ) (numbers : IsNumberedFrom n entries) (
   parts : IsNumberedFrom n left_is.before × IsNumberedFrom (n + length left_is.before) (first ∷ left_is.after)
   parts = IsNumberedFrom-append n left_is.before (first ∷ left_is.after) (subst (IsNumberedFrom n) left_is.whole numbers)
 
-  before_same : (b : List Entry) (x : Entry) (a : List Entry) → left_is.before ≡ b ++ x ∷ a → is_unsettled (entries ++ entry ∷ []) history x ≡ is_unsettled entries history x
+  before_same : (b : List LogEntry) (x : LogEntry) (a : List LogEntry) → left_is.before ≡ b ++ x ∷ a → is_unsettled (entries ++ entry ∷ []) history x ≡ is_unsettled entries history x
   before_same b x a e =
       let number = number_at n b x a (subst (IsNumberedFrom n) e parts.0) in
       let long = ap length e ∙ length-append b (x ∷ a) in
@@ -272,7 +272,7 @@ module _ (entries : List Entry) (n : ℕ) (numbers : IsNumberedFrom n entries) (
       ∙ ap (λ t. is_unsettled entries history x && not t) (ne_eqb first.number x.number (λ q. omega (arith, number, long, parts.1.0, q)))
       ∙ and_true (is_unsettled entries history x)
 
-  after_same : (b : List Entry) (x : Entry) (a : List Entry) → left_is.after ≡ b ++ x ∷ a → is_unsettled (entries ++ entry ∷ []) history x ≡ is_unsettled entries history x
+  after_same : (b : List LogEntry) (x : LogEntry) (a : List LogEntry) → left_is.after ≡ b ++ x ∷ a → is_unsettled (entries ++ entry ∷ []) history x ≡ is_unsettled entries history x
   after_same b x a e =
       let number = number_at (n + length left_is.before + 1) b x a (subst (IsNumberedFrom (n + length left_is.before + 1)) e parts.1.1) in
       unsettled_then x
@@ -289,7 +289,7 @@ module _ (entries : List Entry) (n : ℕ) (numbers : IsNumberedFrom n entries) (
       (and_from _ _ (ap (is_open entries) same ∙ opened) (not_from_false _ (ap (λ t. is_among t history) same ∙ out)))
 
   -- where the first of the rest writes, nothing after it is unsettled
-  none_after : writes place first.content ≡ true → (b : List Entry) (x : Entry) (a : List Entry) → left_is.after ≡ b ++ x ∷ a → writes place x.content ≡ true → is_unsettled entries history x ≡ false
+  none_after : writes place first.content ≡ true → (b : List LogEntry) (x : LogEntry) (a : List LogEntry) → left_is.after ≡ b ++ x ∷ a → writes place x.content ≡ true → is_unsettled entries history x ≡ false
   none_after here b x a e there =
       false_from_ne_true _ (λ passes.
       let whole : entries ≡ (left_is.before ++ first ∷ b) ++ x ∷ a =
@@ -339,21 +339,21 @@ module _ (entries : List Entry) (n : ℕ) (numbers : IsNumberedFrom n entries) (
       ∙ sym (settled-undone entries history place)
 
 -- a place that no member of the history has locked is settled without it as with it
-pub settled_with-elsewhere : (entries : List Entry) (history : List TxnId) (txn : TxnId) (place : Place) → locks_of_log entries txn place ≢ Some Exclusive →
+pub settled_with-elsewhere : (entries : List LogEntry) (history : List TxnId) (txn : TxnId) (place : Place) → locks_of_log entries txn place ≢ Some Exclusive →
     settled entries (history ++ txn ∷ []) place ≡ settled entries history place
 settled_with-elsewhere entries history txn place free =
     settled-undone entries (history ++ txn ∷ []) place
     ∙ undone-agree _ (is_unsettled entries history) place _ entries (λ before x after e here. same before x after e here (same_txn (txn_of x.content) txn) refl (is_unsettled entries history x) refl)
     ∙ sym (settled-undone entries history place)
   where
-    among : (x : Entry) → is_among (txn_of x.content) (history ++ txn ∷ []) ≡ (is_among (txn_of x.content) history || same_txn (txn_of x.content) txn)
+    among : (x : LogEntry) → is_among (txn_of x.content) (history ++ txn ∷ []) ≡ (is_among (txn_of x.content) history || same_txn (txn_of x.content) txn)
     among x = list_any-append (same_txn (txn_of x.content)) history (txn ∷ []) ∙ ap (λ b. is_among (txn_of x.content) history || b) (or_false _)
 
-    with_member : (x : Entry) (b : Bool) → same_txn (txn_of x.content) txn ≡ b →
+    with_member : (x : LogEntry) (b : Bool) → same_txn (txn_of x.content) txn ≡ b →
         is_unsettled entries (history ++ txn ∷ []) x ≡ (is_left entries x && (is_open entries (txn_of x.content) && not (is_among (txn_of x.content) history || b)))
     with_member x b e = ap (λ t. is_left entries x && (is_open entries (txn_of x.content) && not t)) (among x ∙ ap (λ t. is_among (txn_of x.content) history || t) e)
 
-    same : (before : List Entry) (x : Entry) (after : List Entry) → entries ≡ before ++ x ∷ after → writes place x.content ≡ true → (b : Bool) → same_txn (txn_of x.content) txn ≡ b →
+    same : (before : List LogEntry) (x : LogEntry) (after : List LogEntry) → entries ≡ before ++ x ∷ after → writes place x.content ≡ true → (b : Bool) → same_txn (txn_of x.content) txn ≡ b →
         (u : Bool) → is_unsettled entries history x ≡ u → is_unsettled entries (history ++ txn ∷ []) x ≡ is_unsettled entries history x
     same before x after e here false f u q = with_member x false f ∙ ap (λ t. is_left entries x && (is_open entries (txn_of x.content) && not t)) (or_false _)
     same before x after e here true t true q =
@@ -364,7 +364,7 @@ settled_with-elsewhere entries history txn place free =
         ∙ sym q
 
 -- a place that a member of the history has locked is settled as the store has it
-pub settled_at-member : (entries : List Entry) (history : List TxnId) (txn : TxnId) (place : Place) → HasNoConflict entries → is_among txn history ≡ true →
+pub settled_at-member : (entries : List LogEntry) (history : List TxnId) (txn : TxnId) (place : Place) → HasNoConflict entries → is_among txn history ≡ true →
     locks_of_log entries txn place ≡ Some Exclusive → settled entries history place ≡ (store_of_log entries place).1
 settled_at-member entries history txn place apart member locked =
     settled-undone entries history place
@@ -379,7 +379,7 @@ unfolding settled unsettled store_of_log
 settled-nil history place = refl
 
 -- a Set that has the value before it as its old image can be reversed
-pub IsReversible-set : (seen : List Entry) (txn : TxnId) (table key : List ℕ) (before : ℕ) (old new : Option (List ℕ)) → (store_of_log seen (table, key)).1 ≡ old →
+pub IsReversible-set : (seen : List LogEntry) (txn : TxnId) (table key : List ℕ) (before : ℕ) (old new : Option (List ℕ)) → (store_of_log seen (table, key)).1 ≡ old →
     IsReversible seen (Set txn table key before old new)
 IsReversible-set seen txn table key before old new h =
     λ place here. sym (ap (λ (p : Place). (store_of_log seen p).1) (sym (same_place-true (table, key) place here)) ∙ h)

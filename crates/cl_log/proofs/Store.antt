@@ -5,7 +5,7 @@ use Rattle.std.proofs.lemmas.Bool.{cond-true, cond-false, cases_Bool, ne_eqb, eq
 use Rattle.std.proofs.lemmas.List.{append_assoc, append-nil}
 use Rattle.std.proofs.lemmas.List.Sums.{fold_push, fold-append}
 use Rattle.cl_types.specs.Places.{Place, Stored}
-use Rattle.cl_log.specs.Entry.{Entry, IsNumberedFrom, EachAfter, BeginsWith}
+use Rattle.cl_log.specs.LogEntry.{LogEntry, IsNumberedFrom, EachAfter, BeginsWith}
 use Rattle.cl_log.specs.Kind.{writes, number_before}
 use Rattle.cl_log.specs.Store.{written, stored_after, store_of_log, redo_by_guard, redone, later, CarriesNumberBefore, IsConsistentLog, IsCopyAfter}
 use Rattle.cl_log.proofs.Entries.{IsNumberedFrom-append, EachAfter-append, EachAfter-at, fronts, append_cancel}
@@ -16,31 +16,31 @@ unfolding store_of_log
 store_of_log-nil place = refl
 
 -- one more record
-pub store_of_log_push : (entries : List Entry) (entry : Entry) (place : Place) → store_of_log (entries ++ entry ∷ []) place ≡ stored_after place (store_of_log entries place) entry
+pub store_of_log_push : (entries : List LogEntry) (entry : LogEntry) (place : Place) → store_of_log (entries ++ entry ∷ []) place ≡ stored_after place (store_of_log entries place) entry
 unfolding store_of_log
 store_of_log_push entries entry place = fold_push (stored_after place) (0, None) entries entry
 
-pub store_of_log-append : (xs ys : List Entry) (place : Place) → store_of_log (xs ++ ys) place ≡ fold (stored_after place) (store_of_log xs place) ys
+pub store_of_log-append : (xs ys : List LogEntry) (place : Place) → store_of_log (xs ++ ys) place ≡ fold (stored_after place) (store_of_log xs place) ys
 unfolding store_of_log
 store_of_log-append xs ys place = fold-append (stored_after place) (0, None) xs ys
 
 -- a record that writes nothing there leaves what stands there
-pub store_of_log_other : (entries : List Entry) (entry : Entry) (place : Place) → writes place entry.content ≡ false → store_of_log (entries ++ entry ∷ []) place ≡ store_of_log entries place
+pub store_of_log_other : (entries : List LogEntry) (entry : LogEntry) (place : Place) → writes place entry.content ≡ false → store_of_log (entries ++ entry ∷ []) place ≡ store_of_log entries place
 store_of_log_other entries entry place h = store_of_log_push entries entry place ∙ cond-false _ _ _ h
 
 -- a write there leaves its number and what it makes of the value
-pub store_of_log_written : (entries : List Entry) (entry : Entry) (place : Place) → writes place entry.content ≡ true → store_of_log (entries ++ entry ∷ []) place ≡ written entry (store_of_log entries place)
+pub store_of_log_written : (entries : List LogEntry) (entry : LogEntry) (place : Place) → writes place entry.content ≡ true → store_of_log (entries ++ entry ∷ []) place ≡ written entry (store_of_log entries place)
 store_of_log_written entries entry place h = store_of_log_push entries entry place ∙ cond-true _ _ _ h
 
-pub redone_push : (entries : List Entry) (entry : Entry) (place : Place) (stored : Stored) → redone (entries ++ entry ∷ []) place stored ≡ redo_by_guard place (redone entries place stored) entry
+pub redone_push : (entries : List LogEntry) (entry : LogEntry) (place : Place) (stored : Stored) → redone (entries ++ entry ∷ []) place stored ≡ redo_by_guard place (redone entries place stored) entry
 unfolding redone
 redone_push entries entry place stored = fold_push (redo_by_guard place) stored entries entry
 
-pub redone-append : (xs ys : List Entry) (place : Place) (stored : Stored) → redone (xs ++ ys) place stored ≡ redone ys place (redone xs place stored)
+pub redone-append : (xs ys : List LogEntry) (place : Place) (stored : Stored) → redone (xs ++ ys) place stored ≡ redone ys place (redone xs place stored)
 unfolding redone
 redone-append xs ys place stored = fold-append (redo_by_guard place) stored xs ys
 
-redone-cons : (x : Entry) (xs : List Entry) (place : Place) (stored : Stored) → redone (x ∷ xs) place stored ≡ redone xs place (redo_by_guard place stored x)
+redone-cons : (x : LogEntry) (xs : List LogEntry) (place : Place) (stored : Stored) → redone (x ∷ xs) place stored ≡ redone xs place (redo_by_guard place stored x)
 unfolding redone
 redone-cons x xs place stored = refl
 
@@ -49,7 +49,7 @@ unfolding redone
 redone-nil place stored = refl
 
 -- the numbers in a store are below those that come
-stored_below : (n : ℕ) (xs : List Entry) (place : Place) (stored : Stored) → IsNumberedFrom n xs → stored.0 < n → (fold (stored_after place) stored xs).0 < n + length xs
+stored_below : (n : ℕ) (xs : List LogEntry) (place : Place) (stored : Stored) → IsNumberedFrom n xs → stored.0 < n → (fold (stored_after place) stored xs).0 < n + length xs
 stored_below n [] place stored h l = omega arith
 stored_below n (x ∷ xs) place stored h l =
     let below : (stored_after place stored x).0 < n + 1 =
@@ -60,12 +60,12 @@ stored_below n (x ∷ xs) place stored h l =
     let r = stored_below (n + 1) xs place (stored_after place stored x) h.1 below in
     omega (arith, r)
 
-pub number-store_of_log-lt : (n : ℕ) (xs : List Entry) (place : Place) → 1 ≤ n → IsNumberedFrom n xs → (store_of_log xs place).0 < n + length xs
+pub number-store_of_log-lt : (n : ℕ) (xs : List LogEntry) (place : Place) → 1 ≤ n → IsNumberedFrom n xs → (store_of_log xs place).0 < n + length xs
 unfolding store_of_log
 number-store_of_log-lt n xs place one h = stored_below n xs place (0, None) h (omega arith)
 
 -- numbers never fall, and where the number stays the record stays
-later_from : (n : ℕ) (xs : List Entry) (place : Place) (stored : Stored) → IsNumberedFrom n xs → stored.0 < n →
+later_from : (n : ℕ) (xs : List LogEntry) (place : Place) (stored : Stored) → IsNumberedFrom n xs → stored.0 < n →
     (stored.0 < (fold (stored_after place) stored xs).0) ⊎ (fold (stored_after place) stored xs ≡ stored)
 later_from n [] place stored h l = inr refl
 later_from n (x ∷ xs) place stored h l =
@@ -87,7 +87,7 @@ later_from n (x ∷ xs) place stored h l =
     ]
 
 -- a longer log leaves the same, or a greater number
-pub store_of_log-grows : (xs ys : List Entry) (place : Place) → IsNumberedFrom 1 (xs ++ ys) →
+pub store_of_log-grows : (xs ys : List LogEntry) (place : Place) → IsNumberedFrom 1 (xs ++ ys) →
     ((store_of_log xs place).0 < (store_of_log (xs ++ ys) place).0) ⊎ (store_of_log (xs ++ ys) place ≡ store_of_log xs place)
 store_of_log-grows xs ys place h =
     let parts = IsNumberedFrom-append 1 xs ys h in
@@ -98,14 +98,14 @@ store_of_log-grows xs ys place h =
     ]
 
 -- the later of what two fronts of a log leave is what the longer leaves
-pub later_of_longer : (xs ys : List Entry) (place : Place) → IsNumberedFrom 1 (xs ++ ys) → later (store_of_log xs place) (store_of_log (xs ++ ys) place) ≡ store_of_log (xs ++ ys) place
+pub later_of_longer : (xs ys : List LogEntry) (place : Place) → IsNumberedFrom 1 (xs ++ ys) → later (store_of_log xs place) (store_of_log (xs ++ ys) place) ≡ store_of_log (xs ++ ys) place
 later_of_longer xs ys place h =
     elim (store_of_log-grows xs ys place h) [
       | inl m ↦ cond-true _ _ _ (lt-ltb _ _ m)
       | inr s ↦ cond-false _ _ _ (le-ltb (store_of_log xs place).0 (store_of_log (xs ++ ys) place).0 (let r = ap (λ (q : Stored). q.0) s in omega (arith, r))) ∙ sym s
     ]
 
-pub later_of_shorter : (xs ys : List Entry) (place : Place) → IsNumberedFrom 1 (xs ++ ys) → later (store_of_log (xs ++ ys) place) (store_of_log xs place) ≡ store_of_log (xs ++ ys) place
+pub later_of_shorter : (xs ys : List LogEntry) (place : Place) → IsNumberedFrom 1 (xs ++ ys) → later (store_of_log (xs ++ ys) place) (store_of_log xs place) ≡ store_of_log (xs ++ ys) place
 later_of_shorter xs ys place h =
     cond-false _ _ _ (le-ltb (store_of_log (xs ++ ys) place).0 (store_of_log xs place).0 (
     elim (store_of_log-grows xs ys place h) [
@@ -114,7 +114,7 @@ later_of_shorter xs ys place h =
     ]))
 
 -- an applied write
-redo_applied : (place : Place) (stored : Stored) (entry : Entry) → (writes place entry.content ≡ true → stored.0 ≡ number_before entry.content) → redo_by_guard place stored entry ≡ stored_after place stored entry
+redo_applied : (place : Place) (stored : Stored) (entry : LogEntry) → (writes place entry.content ≡ true → stored.0 ≡ number_before entry.content) → redo_by_guard place stored entry ≡ stored_after place stored entry
 redo_applied place stored entry h =
     elim (cases_Bool (writes place entry.content)) [
       | inl t ↦ cond-true _ _ _ (and_from _ _ t (eq-eqb stored.0 (number_before entry.content) (h t))) ∙ sym (cond-true _ _ _ t)
@@ -122,7 +122,7 @@ redo_applied place stored entry h =
     ]
 
 -- a skipped write
-redo_skipped : (place : Place) (stored : Stored) (entry : Entry) → (writes place entry.content ≡ true → stored.0 ≢ number_before entry.content) → redo_by_guard place stored entry ≡ stored
+redo_skipped : (place : Place) (stored : Stored) (entry : LogEntry) → (writes place entry.content ≡ true → stored.0 ≢ number_before entry.content) → redo_by_guard place stored entry ≡ stored
 redo_skipped place stored entry h =
     elim (cases_Bool (writes place entry.content)) [
       | inl t ↦ cond-false _ _ _ (and_right (writes place entry.content) _ (ne_eqb stored.0 (number_before entry.content) (h t)))
@@ -130,7 +130,7 @@ redo_skipped place stored entry h =
     ]
 
 -- redo on the store of the records before them
-redone_next : (xs ys : List Entry) (place : Place) → EachAfter CarriesNumberBefore xs ys → redone ys place (store_of_log xs place) ≡ store_of_log (xs ++ ys) place
+redone_next : (xs ys : List LogEntry) (place : Place) → EachAfter CarriesNumberBefore xs ys → redone ys place (store_of_log xs place) ≡ store_of_log (xs ++ ys) place
 redone_next xs [] place c = redone-nil place (store_of_log xs place) ∙ ap (λ es. store_of_log es place) (sym (append-nil xs))
 redone_next xs (y ∷ ys) place c =
     redone-cons y ys place (store_of_log xs place)
@@ -139,7 +139,7 @@ redone_next xs (y ∷ ys) place c =
     ∙ ap (λ es. store_of_log es place) (append_assoc xs (y ∷ []) ys)
 
 -- redo on a store that is ahead of them
-redone_ahead : (xs ys zs : List Entry) (place : Place) → EachAfter CarriesNumberBefore xs ys → IsNumberedFrom 1 (xs ++ (ys ++ zs)) →
+redone_ahead : (xs ys zs : List LogEntry) (place : Place) → EachAfter CarriesNumberBefore xs ys → IsNumberedFrom 1 (xs ++ (ys ++ zs)) →
     redone ys place (store_of_log (xs ++ (ys ++ zs)) place) ≡ store_of_log (xs ++ (ys ++ zs)) place
 redone_ahead xs [] zs place c h = redone-nil place _
 redone_ahead xs (y ∷ ys) zs place c h =
@@ -160,7 +160,7 @@ redone_ahead xs (y ∷ ys) zs place c h =
     ∙ ap (λ es. store_of_log es place) (sym again)
 
 -- records that stand before a moment, redone on what it left
-redone_before : (front records more : List Entry) (place : Place) → IsNumberedFrom 1 (front ++ (records ++ more)) → EachAfter CarriesNumberBefore front records →
+redone_before : (front records more : List LogEntry) (place : Place) → IsNumberedFrom 1 (front ++ (records ++ more)) → EachAfter CarriesNumberBefore front records →
     redone records place (store_of_log (front ++ (records ++ more)) place) ≡ later (store_of_log (front ++ (records ++ more)) place) (store_of_log (front ++ records) place)
 redone_before front records more place h c =
     let again = append_assoc front records more in
@@ -170,7 +170,7 @@ redone_before front records more place h c =
     ∙ ap (λ es. later (store_of_log es place) (store_of_log (front ++ records) place)) again
 
 -- records that go on from a moment, redone on what it left
-redone_after : (front more records : List Entry) (place : Place) → IsNumberedFrom 1 (front ++ (more ++ records)) → EachAfter CarriesNumberBefore front (more ++ records) →
+redone_after : (front more records : List LogEntry) (place : Place) → IsNumberedFrom 1 (front ++ (more ++ records)) → EachAfter CarriesNumberBefore front (more ++ records) →
     redone (more ++ records) place (store_of_log (front ++ more) place) ≡ later (store_of_log (front ++ more) place) (store_of_log (front ++ (more ++ records)) place)
 redone_after front more records place h c =
     let again = append_assoc front more records in
@@ -187,7 +187,7 @@ redone_after front more records place h c =
     ∙ ap (λ es. later (store_of_log (front ++ more) place) (store_of_log es place)) again
 
 -- redo by guard on what some moment after the first entries left
-pub redone_on_copy : (log front records more : List Entry) (place : Place) → IsNumberedFrom 1 log → IsConsistentLog log →
+pub redone_on_copy : (log front records more : List LogEntry) (place : Place) → IsNumberedFrom 1 log → IsConsistentLog log →
     BeginsWith log (front ++ records) → BeginsWith log (front ++ more) →
     redone records place (store_of_log (front ++ more) place) ≡ later (store_of_log (front ++ more) place) (store_of_log (front ++ records) place)
 redone_on_copy log front records more place h c (us, eu) (vs, ev) =
@@ -207,7 +207,7 @@ redone_on_copy log front records more place h c (us, eu) (vs, ev) =
     ]
 
 -- redo by guard on a copy leaves the later of what the copy has and what the log left
-pub redone_leaves_later : (log front records : List Entry) (copy : Place → Stored) → IsNumberedFrom 1 log → IsConsistentLog log →
+pub redone_leaves_later : (log front records : List LogEntry) (copy : Place → Stored) → IsNumberedFrom 1 log → IsConsistentLog log →
     BeginsWith log (front ++ records) → IsCopyAfter log front copy → (place : Place) →
     redone records place (copy place) ≡ later (copy place) (store_of_log (front ++ records) place)
 redone_leaves_later log front records copy h c begins is_copy place =
@@ -217,7 +217,7 @@ redone_leaves_later log front records copy h c begins is_copy place =
     ∙ ap (λ stored. later stored (store_of_log (front ++ records) place)) (sym e)
 
 -- what stands after the entry has at least its number
-number-from_entry : (xs : List Entry) (entry : Entry) (ys : List Entry) (place : Place) → IsNumberedFrom 1 (xs ++ entry ∷ ys) → writes place entry.content ≡ true →
+number-from_entry : (xs : List LogEntry) (entry : LogEntry) (ys : List LogEntry) (place : Place) → IsNumberedFrom 1 (xs ++ entry ∷ ys) → writes place entry.content ≡ true →
     entry.number ≤ (store_of_log (xs ++ entry ∷ ys) place).0
 number-from_entry xs entry ys place h t =
     let again = append_assoc xs (entry ∷ []) ys in
@@ -229,7 +229,7 @@ number-from_entry xs entry ys place h t =
     ]
 
 -- what a moment left, where the records before the entry are redone on it
-meets_guard : (front records : List Entry) (entry : Entry) (rest more vs : List Entry) (place : Place) → IsNumberedFrom 1 (front ++ more) → IsNumberedFrom 1 (front ++ records) →
+meets_guard : (front records : List LogEntry) (entry : LogEntry) (rest more vs : List LogEntry) (place : Place) → IsNumberedFrom 1 (front ++ more) → IsNumberedFrom 1 (front ++ records) →
     records ++ entry ∷ rest ≡ more ++ vs → writes place entry.content ≡ true →
     (later (store_of_log (front ++ more) place) (store_of_log (front ++ records) place) ≡ store_of_log (front ++ records) place)
     ⊎ (entry.number ≤ (later (store_of_log (front ++ more) place) (store_of_log (front ++ records) place)).0)
@@ -243,7 +243,7 @@ meets_guard front records entry rest more vs place h k both t =
           ∙ ap (λ es. store_of_log es place) (sym same))
     ]
   where
-    by_rest : (ws : List Entry) → more ≡ records ++ ws → entry ∷ rest ≡ ws ++ vs →
+    by_rest : (ws : List LogEntry) → more ≡ records ++ ws → entry ∷ rest ≡ ws ++ vs →
         (later (store_of_log (front ++ more) place) (store_of_log (front ++ records) place) ≡ store_of_log (front ++ records) place)
         ⊎ (entry.number ≤ (later (store_of_log (front ++ more) place) (store_of_log (front ++ records) place)).0)
     by_rest [] e q = inl (
@@ -260,7 +260,7 @@ meets_guard front records entry rest more vs place h k both t =
         omega (arith, number, least))
 
 -- no third case of the guard comes: each write finds its number before, or at least its own number
-pub redone_meets_guard : (log front records : List Entry) (entry : Entry) (rest : List Entry) (copy : Place → Stored) → IsNumberedFrom 1 log → IsConsistentLog log →
+pub redone_meets_guard : (log front records : List LogEntry) (entry : LogEntry) (rest : List LogEntry) (copy : Place → Stored) → IsNumberedFrom 1 log → IsConsistentLog log →
     log ≡ front ++ records ++ entry ∷ rest → IsCopyAfter log front copy → (place : Place) → writes place entry.content ≡ true →
     (number_before entry.content < entry.number)
     × (((redone records place (copy place)).0 ≡ number_before entry.content) ⊎ (entry.number ≤ (redone records place (copy place)).0))

@@ -7,7 +7,7 @@ use Rattle.std.proofs.lemmas.Map.Keys.{IsDistinct-push}
 use Rattle.cl_types.specs.declared.operations.TxnId.{TxnId}
 use Rattle.cl_types.proofs.Transactions.{same_txn-true, same_txn-itself, same_txn-symmetric}
 use Rattle.cl_types.specs.Transactions.{same_txn}
-use Rattle.cl_log.specs.Entry.{Entry}
+use Rattle.cl_log.specs.LogEntry.{LogEntry}
 use Rattle.cl_log.specs.Kind.{txn_of, is_of, opens}
 use Rattle.cl_log.specs.Open.{is_among, has_begun, is_open, with_txn, txns_of, unended_of}
 use Rattle.cl_log.proofs.Open.{or_false}
@@ -23,7 +23,7 @@ same_txn_equivalence = record {
 }
 
 -- with one more transaction, where it is new
-is_among-with_txn : (txn : TxnId) (txns : List TxnId) (entry : Entry) → is_among txn (with_txn txns entry) ≡ (is_among txn txns || is_of txn entry.content)
+is_among-with_txn : (txn : TxnId) (txns : List TxnId) (entry : LogEntry) → is_among txn (with_txn txns entry) ≡ (is_among txn txns || is_of txn entry.content)
 is_among-with_txn txn txns entry = by_new (is_among (txn_of entry.content) txns) refl
   where
     by_new : (b : Bool) → is_among (txn_of entry.content) txns ≡ b → is_among txn (with_txn txns entry) ≡ (is_among txn txns || is_of txn entry.content)
@@ -38,7 +38,7 @@ is_among-with_txn txn txns entry = by_new (is_among (txn_of entry.content) txns)
         ∙ list_any-append (same_txn txn) txns (txn_of entry.content ∷ [])
         ∙ ap (λ b. is_among txn txns || b) (or_false _ ∙ same_txn-symmetric txn (txn_of entry.content))
 
-is_among-fold : (txn : TxnId) (txns : List TxnId) (entries : List Entry) → is_among txn (fold with_txn txns entries) ≡ (is_among txn txns || list_any (λ entry. is_of txn entry.content) entries)
+is_among-fold : (txn : TxnId) (txns : List TxnId) (entries : List LogEntry) → is_among txn (fold with_txn txns entries) ≡ (is_among txn txns || list_any (λ entry. is_of txn entry.content) entries)
 is_among-fold txn txns [] = sym (or_false _)
 is_among-fold txn txns (x ∷ xs) =
     is_among-fold txn (with_txn txns x) xs
@@ -49,12 +49,12 @@ is_among-fold txn txns (x ∷ xs) =
     regroup true b c = refl
     regroup false b c = refl
 
-pub is_among-txns_of : (entries : List Entry) (txn : TxnId) → is_among txn (txns_of entries) ≡ list_any (λ entry. is_of txn entry.content) entries
+pub is_among-txns_of : (entries : List LogEntry) (txn : TxnId) → is_among txn (txns_of entries) ≡ list_any (λ entry. is_of txn entry.content) entries
 unfolding txns_of
 is_among-txns_of entries txn = is_among-fold txn [] entries
 
 -- a transaction that has begun has records
-begun_has_records : (entries : List Entry) (txn : TxnId) → has_begun entries txn ≡ true → list_any (λ entry. is_of txn entry.content) entries ≡ true
+begun_has_records : (entries : List LogEntry) (txn : TxnId) → has_begun entries txn ≡ true → list_any (λ entry. is_of txn entry.content) entries ≡ true
 unfolding has_begun
 begun_has_records [] txn h = h
 begun_has_records (x ∷ xs) txn h =
@@ -75,7 +75,7 @@ is_among-filter_out p txn (x ∷ xs) h =
     ]
 
 -- a transaction is listed exactly where it is open
-pub is_among-unended_of : (entries : List Entry) (txn : TxnId) → is_among txn (unended_of entries) ≡ is_open entries txn
+pub is_among-unended_of : (entries : List LogEntry) (txn : TxnId) → is_among txn (unended_of entries) ≡ is_open entries txn
 unfolding unended_of
 is_among-unended_of entries txn =
     elim (cases_Bool (is_open entries txn)) [
@@ -84,7 +84,7 @@ is_among-unended_of entries txn =
     ]
 
 -- each transaction is listed once
-distinct_fold : (txns : List TxnId) (entries : List Entry) → IsDistinct same_txn txns → IsDistinct same_txn (fold with_txn txns entries)
+distinct_fold : (txns : List TxnId) (entries : List LogEntry) → IsDistinct same_txn txns → IsDistinct same_txn (fold with_txn txns entries)
 distinct_fold txns [] h = h
 distinct_fold txns (x ∷ xs) h = distinct_fold (with_txn txns x) xs (by_new (is_among (txn_of x.content) txns) refl)
   where
@@ -109,6 +109,6 @@ distinct_none : IsDistinct same_txn []
 unfolding IsDistinct
 distinct_none = tt
 
-pub IsDistinct-unended_of : (entries : List Entry) → IsDistinct same_txn (unended_of entries)
+pub IsDistinct-unended_of : (entries : List LogEntry) → IsDistinct same_txn (unended_of entries)
 unfolding unended_of txns_of
 IsDistinct-unended_of entries = distinct_filter (is_open entries) (fold with_txn [] entries) (distinct_fold [] entries distinct_none)

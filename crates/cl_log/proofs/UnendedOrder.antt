@@ -7,16 +7,16 @@ use Rattle.std.proofs.lemmas.List.Folds.{list_any-append}
 use Rattle.cl_types.specs.declared.operations.TxnId.{TxnId}
 use Rattle.cl_types.specs.Transactions.{same_txn}
 use Rattle.cl_types.proofs.Transactions.{same_txn-true, same_txn-itself}
-use Rattle.cl_log.specs.Entry.{Entry, IsNumberedFrom}
+use Rattle.cl_log.specs.LogEntry.{LogEntry, IsNumberedFrom}
 use Rattle.cl_log.specs.Kind.{txn_of, is_of}
 use Rattle.cl_log.specs.Open.{is_among, is_open, chain_of, with_txn, txns_of, unended_of}
 
 -- the transactions that these entries add to those seen
-abbrev added : List TxnId → List Entry → List TxnId
+abbrev added : List TxnId → List LogEntry → List TxnId
 added seen [] = []
 added seen (x ∷ xs) = cond (is_among (txn_of x.content) seen) (added seen xs) (txn_of x.content ∷ added (seen ++ txn_of x.content ∷ []) xs)
 
-fold_added : (seen : List TxnId) (xs : List Entry) → fold with_txn seen xs ≡ seen ++ added seen xs
+fold_added : (seen : List TxnId) (xs : List LogEntry) → fold with_txn seen xs ≡ seen ++ added seen xs
 fold_added seen [] = sym (append-nil seen)
 fold_added seen (x ∷ xs) =
     let txn = txn_of x.content in
@@ -27,7 +27,7 @@ fold_added seen (x ∷ xs) =
     ]
 
 -- none that was seen is added
-added-new : (txn : TxnId) (seen : List TxnId) (xs : List Entry) → is_among txn seen ≡ true → is_among txn (added seen xs) ≡ false
+added-new : (txn : TxnId) (seen : List TxnId) (xs : List LogEntry) → is_among txn seen ≡ true → is_among txn (added seen xs) ≡ false
 added-new txn seen [] h = refl
 added-new txn seen (x ∷ xs) h =
     elim (cases_Bool (is_among (txn_of x.content) seen)) [
@@ -46,20 +46,20 @@ among_later : (front middle : List TxnId) (a b : TxnId) (back : List TxnId) → 
 among_later front middle a b back = list_any-append (same_txn b) front (a ∷ (middle ++ b ∷ back)) ∙ or_right _ _ (or_right _ _ (among_here middle b back))
 
 -- the numbers of a transaction's records, by the first entry
-chain-own : (txn : TxnId) (x : Entry) (xs : List Entry) → is_of txn x.content ≡ true → chain_of (x ∷ xs) txn ≡ x.number ∷ chain_of xs txn
+chain-own : (txn : TxnId) (x : LogEntry) (xs : List LogEntry) → is_of txn x.content ≡ true → chain_of (x ∷ xs) txn ≡ x.number ∷ chain_of xs txn
 unfolding chain_of
-chain-own txn x xs t = ap (map (λ (e : Entry). e.number)) (cond-true _ _ _ t)
+chain-own txn x xs t = ap (map (λ (e : LogEntry). e.number)) (cond-true _ _ _ t)
 
-chain-other : (txn : TxnId) (x : Entry) (xs : List Entry) → is_of txn x.content ≡ false → chain_of (x ∷ xs) txn ≡ chain_of xs txn
+chain-other : (txn : TxnId) (x : LogEntry) (xs : List LogEntry) → is_of txn x.content ≡ false → chain_of (x ∷ xs) txn ≡ chain_of xs txn
 unfolding chain_of
-chain-other txn x xs f = ap (map (λ (e : Entry). e.number)) (cond-false _ _ _ f)
+chain-other txn x xs f = ap (map (λ (e : LogEntry). e.number)) (cond-false _ _ _ f)
 
 chain-nil : (txn : TxnId) → chain_of [] txn ≡ []
 unfolding chain_of
 chain-nil txn = refl
 
 -- none of them is below the first number
-chain_from : (n : ℕ) (xs : List Entry) (txn : TxnId) (i : ℕ) (is : List ℕ) → IsNumberedFrom n xs → chain_of xs txn ≡ i ∷ is → n ≤ i
+chain_from : (n : ℕ) (xs : List LogEntry) (txn : TxnId) (i : ℕ) (is : List ℕ) → IsNumberedFrom n xs → chain_of xs txn ≡ i ∷ is → n ≤ i
 chain_from n [] txn i is h e = absurd (no_number (sym (chain-nil txn) ∙ e))
   where
     no_number : ◌≡◌ {A = List ℕ} [] (i ∷ is) → ⊥
@@ -72,7 +72,7 @@ chain_from n (x ∷ xs) txn i is h e =
     ]
 
 -- of two that are added, the one that comes first has the lesser first number
-added_by_first : (seen : List TxnId) (n : ℕ) (xs : List Entry) (front middle back : List TxnId) (a b : TxnId) (i j : ℕ) (is js : List ℕ) → IsNumberedFrom n xs →
+added_by_first : (seen : List TxnId) (n : ℕ) (xs : List LogEntry) (front middle back : List TxnId) (a b : TxnId) (i j : ℕ) (is js : List ℕ) → IsNumberedFrom n xs →
     added seen xs ≡ front ++ a ∷ (middle ++ b ∷ back) → chain_of xs a ≡ i ∷ is → chain_of xs b ≡ j ∷ js → i < j
 added_by_first seen n [] front middle back a b i j is js h e ca cb = absurd (both_ways _ refl (ap (is_among a) e ∙ among_here front a (middle ++ b ∷ back)))
 added_by_first seen n (x ∷ xs) front middle back a b i j is js h e ca cb =
@@ -131,7 +131,7 @@ filter_at p (x ∷ xs) front a back e =
     kept again [] e = ([], xs, (let head : x ≡ a = cc in ap (λ y. y ∷ xs) head), cc)
     kept again (y ∷ ys) e = more (again ys cc)
 
-pub unended_by_first_number : (entries : List Entry) (n : ℕ) (front middle back : List TxnId) (a b : TxnId) (i j : ℕ) (is js : List ℕ) → IsNumberedFrom n entries →
+pub unended_by_first_number : (entries : List LogEntry) (n : ℕ) (front middle back : List TxnId) (a b : TxnId) (i j : ℕ) (is js : List ℕ) → IsNumberedFrom n entries →
     unended_of entries ≡ front ++ a ∷ (middle ++ b ∷ back) → chain_of entries a ≡ i ∷ is → chain_of entries b ≡ j ∷ js → i < j
 unfolding unended_of txns_of
 unended_by_first_number entries n front middle back a b i j is js h e ca cb =

@@ -1,4 +1,4 @@
-pub mod Entry
+pub mod LogEntry
 pub mod Kind
 pub mod Locks
 pub mod Log

@@ -7,7 +7,7 @@ use Rattle.cl_types.specs.Modes.{stronger, is_conflict}
 use Rattle.cl_types.specs.Places.{Place, same_place}
 use Rattle.cl_log.specs.declared.records.LogRec.{LogRec}
 use Rattle.cl_log.specs.declared.records.LogRec.TheVariants.{Touch, Set, Add}
-use Rattle.cl_log.specs.Entry.{Entry}
+use Rattle.cl_log.specs.LogEntry.{LogEntry}
 use Rattle.cl_log.specs.Kind.{is_of, is_end}
 use Rattle.cl_log.specs.Open.{is_open}
 
@@ -19,15 +19,15 @@ mode_at place (Add txn table key before amount) = if same_place (table, key) pla
 mode_at place content = None
 
 -- the mode of a transaction at a place after one more record
-abbrev pub mode_after : TxnId → Place → Option Mode → Entry → Option Mode
+abbrev pub mode_after : TxnId → Place → Option Mode → LogEntry → Option Mode
 mode_after txn place mode entry = if is_of txn entry.content then stronger mode (mode_at place entry.content) else mode
 
 -- the strongest mode of a transaction's records at a place
-unfoldable pub strongest_mode : List Entry → TxnId → Place → Option Mode
+unfoldable pub strongest_mode : List LogEntry → TxnId → Place → Option Mode
 strongest_mode entries txn place = fold (mode_after txn place) None entries
 
 -- the locks of a log: for each open transaction, the places of its Touch, Set and Add records with the strongest mode there
-unfoldable pub locks_of_log : List Entry → TxnId → Place → Option Mode
+unfoldable pub locks_of_log : List LogEntry → TxnId → Place → Option Mode
 locks_of_log entries txn place = if is_open entries txn then strongest_mode entries txn place else None
 
 -- what takes a lock: a Touch, Set or Add
@@ -38,11 +38,11 @@ takes_lock (Add txn table key before amount) = true
 takes_lock content = false
 
 -- the locks after one more record: an End frees the locks of its transaction, what takes a lock makes it at least as strong as it asks
-abbrev pub locks_after : (TxnId → Place → Option Mode) → Entry → TxnId → Place → Option Mode
+abbrev pub locks_after : (TxnId → Place → Option Mode) → LogEntry → TxnId → Place → Option Mode
 locks_after locks entry txn place =
     if is_of txn entry.content then (if is_end entry.content then None else stronger (locks txn place) (mode_at place entry.content)) else locks txn place
 
 -- no two transactions have conflicting locks
-abbrev pub HasNoConflict : List Entry → Type 0
+abbrev pub HasNoConflict : List LogEntry → Type 0
 HasNoConflict entries =
     (a b : TxnId) (place : Place) → is_conflict (locks_of_log entries a place) (locks_of_log entries b place) ≡ true → a ≡ b

@@ -1,11 +1,11 @@
 -- What contracts see of a log.
 use Rattle.std.specs.Prelude.{ℕ, ◌+◌, List, length}
-use Rattle.cl_types.specs.GrowingList.{items, spare as spare_of_list}
+use Rattle.cl_types.specs.GrowingList.{items, room as room_of_list}
 use Rattle.cl_log.specs.declared.log.Log.{Log}
-use Rattle.cl_log.specs.Entry.{Entry, numbered}
+use Rattle.cl_log.specs.LogEntry.{LogEntry, numbered}
 
 -- the records that are kept, with their numbers
-unfoldable pub entries : Log → List Entry
+unfoldable pub entries : Log → List LogEntry
 entries log = numbered log.first (items log.records)
 
 -- the number of the first record that is kept, or the next number where none is
@@ -17,5 +17,5 @@ unfoldable pub next_number : Log → ℕ
 next_number log = log.first + length (items log.records)
 
 -- for how many more records there is room
-unfoldable pub spare : Log → ℕ
-spare log = spare_of_list log.records
+unfoldable pub room : Log → ℕ
+room log = room_of_list log.records

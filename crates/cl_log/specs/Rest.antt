@@ -5,30 +5,30 @@ use Rattle.cl_types.specs.declared.operations.TxnId.{TxnId}
 use Rattle.cl_log.specs.declared.records.Form.TheVariants.{Image, Amount}
 use Rattle.cl_log.specs.declared.records.LogRec.{LogRec}
 use Rattle.cl_log.specs.declared.records.LogRec.TheVariants.{Touch, Set, Add, Comp, Prepared, End, Decide}
-use Rattle.cl_log.specs.Entry.{Entry}
+use Rattle.cl_log.specs.LogEntry.{LogEntry}
 use Rattle.cl_log.specs.Kind.{is_of, can_be_undone, undoes}
 
 -- some Comp names the number as undone
-unfoldable pub is_undone : List Entry → ℕ → Bool
+unfoldable pub is_undone : List LogEntry → ℕ → Bool
 is_undone entries number = list_any (λ entry. undoes number entry.content) entries
 
 -- how many Comps name the number as undone
-unfoldable pub times_undone : List Entry → ℕ → ℕ
+unfoldable pub times_undone : List LogEntry → ℕ → ℕ
 times_undone entries number = count_by (λ entry. undoes number entry.content) entries
 
 -- a Set or Add that no Comp of the log names as undone
-abbrev pub is_left : List Entry → Entry → Bool
+abbrev pub is_left : List LogEntry → LogEntry → Bool
 is_left entries entry = can_be_undone entry.content && not (is_undone entries entry.number)
 
-abbrev pub is_left_of : List Entry → TxnId → Entry → Bool
+abbrev pub is_left_of : List LogEntry → TxnId → LogEntry → Bool
 is_left_of entries txn entry = is_of txn entry.content && is_left entries entry
 
 -- the rest of a transaction: its Set and Add records that no Comp names as undone, last first
-unfoldable pub rest_to_undo : List Entry → TxnId → List Entry
+unfoldable pub rest_to_undo : List LogEntry → TxnId → List LogEntry
 rest_to_undo entries txn = reverse (filter (is_left_of entries txn) entries)
 
 -- the number of the first of these entries
-abbrev pub first_number : List Entry → Option ℕ
+abbrev pub first_number : List LogEntry → Option ℕ
 first_number [] = None
 first_number (entry ∷ entries) = Some entry.number
 

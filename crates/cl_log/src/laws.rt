@@ -1,7 +1,7 @@
 //! What holds of every log. Each function does nothing: its contract is a law of the definitions.
 ghost use Rattle.cl_log.specs.Laws.{StoreFollowsRecords, RedoLeavesLater, RedoMeetsGuard, LocksFollowRecords, UndoTakesFirst, UndoKeepsSettled, WritesUndoneOnce, RecordsKeepSettled, HistorySettlesLocks, UnendedAreOpen, UnendedByFirstNumber, OpenByStage, LowIsLeastOpen, CutKeepsLocks};
 ghost use Rattle.std.specs.Prelude.{◌≡◌, ◌+◌, ◌≤◌, length};
-ghost use Rattle.cl_log.specs.Entry.{IsNumberedFrom};
+ghost use Rattle.cl_log.specs.LogEntry.{IsNumberedFrom};
 ghost use Rattle.cl_log.specs.Log.{entries, first_kept, next_number};
 
 use crate::Log;

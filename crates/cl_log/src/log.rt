@@ -16,7 +16,7 @@ pub type TxnList = GrowingList<TxnId>;
 ///
 /// Contracts see the records that are kept with their numbers (`entries`), the number of the first
 /// that is kept (`first_kept`), the number of the next (`next_number`), and for how many more there
-/// is room (`spare`).
+/// is room (`room`).
 #[derive(Debug, Drop)]
 pub struct Log {
     records: GrowingList<LogRec>,
@@ -26,13 +26,13 @@ pub struct Log {
     ghost has_numbers: { first + length (items records) < 2 ^ 64 },
 }
 
-#[tactic(auto, unfolding(crate::specs::Log::entries, crate::specs::Log::first_kept, crate::specs::Log::next_number, crate::specs::Log::spare))]
+#[tactic(auto, unfolding(crate::specs::Log::entries, crate::specs::Log::first_kept, crate::specs::Log::next_number, crate::specs::Log::room))]
 impl Log {
     ghost use Rattle.std.specs.Prelude.{◌≡◌, ◌+◌, ◌-◌, ◌^◌, ◌≤◌, [], ◌∷◌, ◌++◌, OnOk, IsOk, IfOk};
     ghost use Rattle.cl_types.specs.GrowingList.{items};
     ghost use Rattle.std.specs.Option.{option_copied};
-    ghost use Rattle.cl_log.specs.Log.{entries, first_kept, next_number, spare};
-    ghost use Rattle.cl_log.specs.Entry.{content_at};
+    ghost use Rattle.cl_log.specs.Log.{entries, first_kept, next_number, room};
+    ghost use Rattle.cl_log.specs.LogEntry.{content_at};
     ghost use Rattle.cl_log.specs.Open.{stage_of, chain_of, low_of, unended_of};
     ghost use Rattle.cl_log.specs.Rest.{rest_to_undo, first_number};
 
@@ -55,9 +55,9 @@ impl Log {
         ensures entries { entries self.new ≡ entries self.old }
         ensures first { first_kept self.new ≡ first_kept self.old }
         ensures next { next_number self.new ≡ next_number self.old }
-        ensures ok { OnOk result (count ≤ spare self.new) }
-        ensures roomy { count ≤ spare self.old → IsOk result }
-        ensures kept { spare self.old ≤ spare self.new }
+        ensures ok { OnOk result (count ≤ room self.new) }
+        ensures roomy { count ≤ room self.old → IsOk result }
+        ensures keeps_room { room self.old ≤ room self.new }
     {
         self.records.reserve(count)
     }
@@ -80,13 +80,13 @@ impl Log {
     /// Adds a record at the end and gives its number. The last number is below 2^62. It takes no
     /// memory.
     pub fn append(&mut self, entry: LogRec) -> u64
-        requires room { 1 ≤ spare self.old }
+        requires room { 1 ≤ room self.old }
         requires numbers { next_number self.old ≤ 2 ^ 62 }
         ensures number { result ≡ next_number self.old }
         ensures entries { entries self.new ≡ entries self.old ++ record { number = result; content = entry } ∷ [] }
         ensures first { first_kept self.new ≡ first_kept self.old }
         ensures next { next_number self.new ≡ result + 1 }
-        ensures kept { spare self.old ≤ spare self.new + 1 }
+        ensures keeps_room { room self.old ≤ room self.new + 1 }
     {
         let number = self.next();
         match self.records.push(entry) {

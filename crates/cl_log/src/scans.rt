@@ -2,7 +2,7 @@
 ghost use Rattle.std.specs.Prelude.{◌≡◌, ◌+◌, ◌^◌, ◌<◌, ◌&&◌, not, length, IfOk, IfSome};
 ghost use Rattle.std.specs.List.{list_any, position_from};
 ghost use Rattle.cl_types.specs.GrowingList.{items};
-ghost use Rattle.cl_log.specs.Entry.{numbered};
+ghost use Rattle.cl_log.specs.LogEntry.{numbered};
 ghost use Rattle.cl_log.specs.Kind.{txn_of, is_of, opens, is_prepared, is_end, undoes, can_be_undone};
 ghost use Rattle.cl_log.specs.Open.{has_begun, has_prepared, has_ended, is_open, is_among, stage_of, low_of, chain_of, unended_of};
 ghost use Rattle.cl_log.specs.Rest.{is_undone, rest_to_undo, first_number};

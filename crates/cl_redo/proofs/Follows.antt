@@ -6,7 +6,7 @@ use Rattle.cl_types.specs.declared.operations.TxnId.{TxnId}
 use Rattle.cl_types.specs.Modes.{stronger}
 use Rattle.cl_types.specs.Places.{Place, Stored}
 use Rattle.cl_log.specs.declared.log.Log.{Log}
-use Rattle.cl_log.specs.Entry.{Entry}
+use Rattle.cl_log.specs.LogEntry.{LogEntry}
 use Rattle.cl_log.specs.Kind.{writes, number_before, is_of, is_end}
 use Rattle.cl_log.specs.Locks.{mode_at, locks_after, locks_of_log}
 use Rattle.cl_log.specs.Log.{entries, first_kept, next_number}
@@ -25,7 +25,7 @@ store_below log place =
     omega (arith, below, next)
 
 -- a record that is redone on the store of the log gives the store of the log with the record
-pub store_follows : (log : Log) (entry : Entry) (stored : Place → Stored) → entry.number ≡ next_number log →
+pub store_follows : (log : Log) (entry : LogEntry) (stored : Place → Stored) → entry.number ≡ next_number log →
     MeetsWrite stored entry → IsStoreOf stored (entries log) → (place : Place) →
     redo_by_guard place (stored place) entry ≡ store_of_log (entries log ++ entry ∷ []) place
 store_follows log entry stored next meets is_store place =
@@ -45,7 +45,7 @@ store_follows log entry stored next meets is_store place =
         absurd (omega (arith, ahead, same, below, next))
 
 -- the locks that a record leaves on the locks of the log are the locks of the log with the record
-pub locks_follow : (log : Log) (entry : Entry) (held : TxnId → Place → Option Mode) → IsUnended (entries log) entry.content →
+pub locks_follow : (log : Log) (entry : LogEntry) (held : TxnId → Place → Option Mode) → IsUnended (entries log) entry.content →
     AreLocksOf held (entries log) → (txn : TxnId) (place : Place) →
     locks_after held entry txn place ≡ locks_of_log (entries log ++ entry ∷ []) txn place
 locks_follow log entry held unended are_locks txn place =

@@ -4,7 +4,7 @@ use Rattle.std.proofs.lemmas.Bool.{cond-true, cond-false, cases_Bool}
 use Rattle.cl_types.specs.Places.{Place, Stored, same_place}
 use Rattle.cl_types.proofs.Places.{same_place-true}
 use Rattle.cl_log.specs.declared.records.LogRec.{LogRec}
-use Rattle.cl_log.specs.Entry.{Entry}
+use Rattle.cl_log.specs.LogEntry.{LogEntry}
 use Rattle.cl_log.specs.Kind.{writes, number_before}
 use Rattle.cl_log.specs.Store.{written, value_after, redo_by_guard}
 use Rattle.cl_redo.specs.Write.{guarded, after_write}
@@ -12,13 +12,13 @@ use Rattle.cl_redo.specs.declared.write.Guarded.{Guarded}
 use Rattle.cl_redo.specs.declared.write.Guarded.TheVariants.{Write, Skip}
 
 -- at the place of the write, by whether the number that is there is the one before
-at_place : (entry : Entry) (stored : Stored) (meets : Bool) →
+at_place : (entry : LogEntry) (stored : Stored) (meets : Bool) →
     after_write entry.number (cond meets (Write (value_after entry.content stored.1)) Skip) stored ≡ cond (true && meets) (written entry stored) stored
 at_place entry stored true = refl
 at_place entry stored false = refl
 
 -- a write that is made ready and then made is the write by guard
-pub redo_by_guard-steps : (entry : Entry) (own place : Place) (stored : Place → Stored) → writes place entry.content ≡ same_place own place →
+pub redo_by_guard-steps : (entry : LogEntry) (own place : Place) (stored : Place → Stored) → writes place entry.content ≡ same_place own place →
     cond (same_place own place) (after_write entry.number (guarded entry.content (number_before entry.content) (stored own)) (stored place)) (stored place)
     ≡ redo_by_guard place (stored place) entry
 redo_by_guard-steps entry own place stored here =

@@ -6,7 +6,7 @@ use Rattle.cl_types.specs.declared.operations.Mode.{Mode}
 use Rattle.cl_types.specs.declared.operations.TxnId.{TxnId}
 use Rattle.cl_types.specs.Modes.{stronger}
 use Rattle.cl_types.specs.Places.{Place, Stored}
-use Rattle.cl_log.specs.Entry.{Entry, IsNumberedFrom, EachAfter, BeginsWith}
+use Rattle.cl_log.specs.LogEntry.{LogEntry, IsNumberedFrom, EachAfter, BeginsWith}
 use Rattle.cl_log.specs.Kind.{writes, number_before, is_of, is_end}
 use Rattle.cl_log.specs.Locks.{mode_at}
 use Rattle.cl_log.specs.Store.{written, redo_by_guard, redone, later, store_of_log, CarriesNumberBefore, IsConsistentLog, IsCopyAfter}
@@ -19,7 +19,7 @@ use Rattle.cl_redo.specs.Redo.{IsStoreOf, AreLocksOf}
 -- ---- from the first record on
 
 -- by guard on the store of the records before it, a record of a consistent log is applied
-redone_next : (front : List Entry) (entry : Entry) (place : Place) → CarriesNumberBefore front entry →
+redone_next : (front : List LogEntry) (entry : LogEntry) (place : Place) → CarriesNumberBefore front entry →
     redo_by_guard place (store_of_log front place) entry ≡ store_of_log (front ++ entry ∷ []) place
 redone_next front entry place carries =
     elim (cases_Bool (writes place entry.content)) [
@@ -29,7 +29,7 @@ redone_next front entry place carries =
     ]
 
 -- the locks of the records, from those of the records before them
-taken_locks : (front records : List Entry) (stored stored_last : Place → Stored) (held held_last : TxnId → Place → Option Mode) →
+taken_locks : (front records : List LogEntry) (stored stored_last : Place → Stored) (held held_last : TxnId → Place → Option Mode) →
     EachAfter (λ seen entry. IsUnended seen entry.content) front records →
     AreLocksOf held front → TakesInTurn records stored held stored_last held_last → AreLocksOf held_last (front ++ records)
 taken_locks front [] stored stored_last held held_last unended are_locks takes =
@@ -43,14 +43,14 @@ taken_locks front (entry ∷ records) stored stored_last held held_last unended 
     ∙ sym (locks_of_log_push front entry txn place unended.0))
     takes)
 
-pub taken_locks_from_none : (records : List Entry) (stored_first stored : Place → Stored) (held : TxnId → Place → Option Mode) →
+pub taken_locks_from_none : (records : List LogEntry) (stored_first stored : Place → Stored) (held : TxnId → Place → Option Mode) →
     EachAfter (λ seen entry. IsUnended seen entry.content) [] records →
     TakesInTurn records stored_first (λ _ _. None) stored held → AreLocksOf held records
 taken_locks_from_none records stored_first stored held unended takes =
     taken_locks [] records stored_first stored (λ _ _. None) held unended (λ txn place. sym (locks_of_log-nil txn place)) takes
 
 -- the store of the records, from that of the records before them
-taken_store : (front records : List Entry) (stored stored_last : Place → Stored) (held held_last : TxnId → Place → Option Mode) →
+taken_store : (front records : List LogEntry) (stored stored_last : Place → Stored) (held held_last : TxnId → Place → Option Mode) →
     EachAfter CarriesNumberBefore front records → IsStoreOf stored front → TakesInTurn records stored held stored_last held_last →
     IsStoreOf stored_last (front ++ records)
 taken_store front [] stored stored_last held held_last carries is_store takes =
@@ -61,7 +61,7 @@ taken_store front (entry ∷ records) stored stored_last held held_last carries 
     (λ place. by_guard place ∙ ap (λ s. redo_by_guard place s entry) (is_store place) ∙ redone_next front entry place carries.0)
     takes)
 
-pub taken_from_first : (log : List Entry) (stored : Place → Stored) (held : TxnId → Place → Option Mode) →
+pub taken_from_first : (log : List LogEntry) (stored : Place → Stored) (held : TxnId → Place → Option Mode) →
     IsConsistentLog log → EachAfter (λ seen entry. IsUnended seen entry.content) [] log →
     TakesInTurn log (λ _. (0, None)) (λ _ _. None) stored held → IsStoreOf stored log × AreLocksOf held log
 taken_from_first log stored held consistent unended takes = (
@@ -72,20 +72,20 @@ taken_from_first log stored held consistent unended takes = (
 -- ---- on a copy
 
 -- records that are taken in turn are redone
-pub taken_is_redone : (records : List Entry) (stored stored_last : Place → Stored) (held held_last : TxnId → Place → Option Mode) →
+pub taken_is_redone : (records : List LogEntry) (stored stored_last : Place → Stored) (held held_last : TxnId → Place → Option Mode) →
     TakesInTurn records stored held stored_last held_last → (place : Place) → stored_last place ≡ redone records place (stored place)
 unfolding redone
 taken_is_redone [] stored stored_last held held_last takes place = takes.0 place
 taken_is_redone (entry ∷ records) stored stored_last held held_last (stored_next, held_next, by_guard, by_lock, takes) place =
     taken_is_redone records stored_next stored_last held_next held_last takes place ∙ ap (redone records place) (by_guard place)
 
-pub taken_on_copy : (log first records : List Entry) (copy stored : Place → Stored) (held_first held : TxnId → Place → Option Mode) →
+pub taken_on_copy : (log first records : List LogEntry) (copy stored : Place → Stored) (held_first held : TxnId → Place → Option Mode) →
     IsNumberedFrom 1 log → IsConsistentLog log → BeginsWith log (first ++ records) → IsCopyAfter log first copy →
     TakesInTurn records copy held_first stored held → (place : Place) → stored place ≡ later (copy place) (store_of_log (first ++ records) place)
 taken_on_copy log first records copy stored held_first held numbers consistent begins is_copy takes place =
     taken_is_redone records copy stored held_first held takes place ∙ redone_leaves_later log first records copy numbers consistent begins is_copy place
 
-pub taken_meets_writes : (log first records : List Entry) (entry : Entry) (rest : List Entry) (copy stored : Place → Stored) (held_first held : TxnId → Place → Option Mode) →
+pub taken_meets_writes : (log first records : List LogEntry) (entry : LogEntry) (rest : List LogEntry) (copy stored : Place → Stored) (held_first held : TxnId → Place → Option Mode) →
     IsNumberedFrom 1 log → IsConsistentLog log → log ≡ first ++ records ++ entry ∷ rest → IsCopyAfter log first copy →
     TakesInTurn records copy held_first stored held → MeetsWrite stored entry
 taken_meets_writes log first records entry rest copy stored held_first held numbers consistent is_log is_copy takes = record {

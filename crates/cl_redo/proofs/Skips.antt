@@ -5,7 +5,7 @@ use Rattle.cl_types.specs.Places.{Place, Stored}
 use Rattle.cl_types.proofs.Places.{same_place-true}
 use Rattle.cl_log.specs.declared.records.LogRec.{LogRec}
 use Rattle.cl_log.specs.declared.records.LogRec.TheVariants.{Set, Add, Comp}
-use Rattle.cl_log.specs.Entry.{Entry}
+use Rattle.cl_log.specs.LogEntry.{LogEntry}
 use Rattle.cl_log.specs.Kind.{writes, number_before}
 use Rattle.cl_redo.specs.declared.redone.Redone.{Redone}
 use Rattle.cl_redo.specs.declared.redone.Redone.TheVariants.{Applied, Skipped}
@@ -27,7 +27,7 @@ redone_as-write stored (Comp txn table key before undone form) place write = ap 
 redone_as-write stored content place write = absurd (false≢true write)
 
 -- a write is skipped exactly where the stored number is at least its own
-pub skipped-ahead : (stored : Place → Stored) (entry : Entry) → MeetsWrite stored entry → (redone : Redone) → redone ≡ redone_as stored entry.content →
+pub skipped-ahead : (stored : Place → Stored) (entry : LogEntry) → MeetsWrite stored entry → (redone : Redone) → redone ≡ redone_as stored entry.content →
     (place : Place) → writes place entry.content ≡ true → (redone ≡ Skipped) ↔ (entry.number ≤ (stored place).0)
 skipped-ahead stored entry meets redone is place write =
     subst (λ r. (r ≡ Skipped) ↔ (entry.number ≤ (stored place).0)) (sym (is ∙ redone_as-write stored entry.content place write))

@@ -5,13 +5,13 @@ use Rattle.cl_types.specs.declared.operations.TxnId.{TxnId}
 use Rattle.cl_types.specs.Modes.{is_conflict}
 use Rattle.cl_types.specs.Places.{Place, Stored}
 use Rattle.cl_log.specs.declared.records.LogRec.{LogRec}
-use Rattle.cl_log.specs.Entry.{Entry}
+use Rattle.cl_log.specs.LogEntry.{LogEntry}
 use Rattle.cl_log.specs.Kind.{txn_of, writes, number_before}
 use Rattle.cl_log.specs.Locks.{mode_at, takes_lock}
 use Rattle.cl_log.specs.Open.{has_ended}
 
 -- what stands at the place of a write meets it
-pub record MeetsWrite (stored : Place → Stored) (entry : Entry) : Type 0 where
+pub record MeetsWrite (stored : Place → Stored) (entry : LogEntry) : Type 0 where
   -- the state number before the write is below its own
   pub before : (place : Place) → writes place entry.content ≡ true → number_before entry.content < entry.number
   -- there stands the number before, or at least its own
@@ -22,5 +22,5 @@ abbrev pub IsFree : (TxnId → Place → Option Mode) → LogRec → Type 0
 IsFree held content = (other : TxnId) (place : Place) → other ≢ txn_of content → is_conflict (held other place) (mode_at place content) ≡ false
 
 -- what takes a lock is of a transaction without End
-abbrev pub IsUnended : List Entry → LogRec → Type 0
+abbrev pub IsUnended : List LogEntry → LogRec → Type 0
 IsUnended entries content = takes_lock content ≡ true → has_ended entries (txn_of content) ≡ false

@@ -6,7 +6,7 @@ use Rattle.cl_types.specs.declared.operations.TxnId.{TxnId}
 use Rattle.cl_types.specs.Places.{Place, Stored, same_place}
 use Rattle.cl_log.specs.declared.records.LogRec.{LogRec}
 use Rattle.cl_log.specs.declared.records.LogRec.TheVariants.{Touch, Set, Add, Comp, Prepared, End, Decide}
-use Rattle.cl_log.specs.Entry.{Entry}
+use Rattle.cl_log.specs.LogEntry.{LogEntry}
 use Rattle.cl_log.specs.Store.{store_of_log}
 use Rattle.cl_log.specs.Locks.{locks_of_log}
 use Rattle.cl_locks.specs.Grants.{Grant, after_grant, without_txn}
@@ -44,9 +44,9 @@ needs_no_memory (Decide txn) = true
 needs_no_memory content = false
 
 -- what stands at each place is the store of the log
-abbrev pub IsStoreOf : (Place → Stored) → List Entry → Type 0
+abbrev pub IsStoreOf : (Place → Stored) → List LogEntry → Type 0
 IsStoreOf stored entries = (place : Place) → stored place ≡ store_of_log entries place
 
 -- what each transaction holds at each place are the locks of the log
-abbrev pub AreLocksOf : (TxnId → Place → Option Mode) → List Entry → Type 0
+abbrev pub AreLocksOf : (TxnId → Place → Option Mode) → List LogEntry → Type 0
 AreLocksOf held entries = (txn : TxnId) (place : Place) → held txn place ≡ locks_of_log entries txn place

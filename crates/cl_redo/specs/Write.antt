@@ -23,8 +23,8 @@ after_write number Skip stored = stored
 
 -- a write has room
 abbrev pub CanWrite : Guarded → ℕ → Type 0
-CanWrite (Write value) spare = 1 ≤ spare
-CanWrite Skip spare = Unit {0}
+CanWrite (Write value) room = 1 ≤ room
+CanWrite Skip room = Unit {0}
 
 -- a write is under a number above the one that stands there
 abbrev pub IsAbove : Guarded → ℕ → Stored → Type 0

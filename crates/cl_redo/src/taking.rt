@@ -4,12 +4,12 @@ ghost use Rattle.cl_types.specs.declared.operations.TxnId.{TxnId};
 ghost use Rattle.cl_types.specs.Modes.{is_conflict, stronger};
 ghost use Rattle.cl_types.specs.Places.{Place, same_place};
 ghost use Rattle.cl_types.specs.Transactions.{same_txn};
-ghost use Rattle.cl_log.specs.Log.{entries, next_number, spare as spare_of_log};
+ghost use Rattle.cl_log.specs.Log.{entries, next_number, room as room_of_log};
 ghost use Rattle.cl_log.specs.Kind.{writes};
 ghost use Rattle.cl_log.specs.Locks.{locks_after};
 ghost use Rattle.cl_log.specs.Store.{redo_by_guard};
 ghost use Rattle.cl_locks.specs.Table.{grants_at, held};
-ghost use Rattle.cl_store.specs.Store.{stored, spare};
+ghost use Rattle.cl_store.specs.Store.{stored, room};
 ghost use Rattle.cl_redo.specs.Condition.{MeetsWrite, IsFree, IsUnended};
 ghost use Rattle.cl_redo.specs.Redo.{redone_as, with_lock, grants_after, needs_no_memory, IsStoreOf, AreLocksOf};
 
@@ -27,9 +27,9 @@ pub fn reserve(store: &mut Store, log: &mut Log, count: usize) -> Result<(), NoM
     ensures store { (place : Place) → stored store.new place ≡ stored store.old place }
     ensures entries { entries log.new ≡ entries log.old }
     ensures next { next_number log.new ≡ next_number log.old }
-    ensures ok { OnOk result ((count ≤ spare store.new) × (count ≤ spare_of_log log.new)) }
-    ensures roomy { count ≤ spare store.old → count ≤ spare_of_log log.old → IsOk result }
-    ensures kept { (spare store.old ≤ spare store.new) × (spare_of_log log.old ≤ spare_of_log log.new) }
+    ensures ok { OnOk result ((count ≤ room store.new) × (count ≤ room_of_log log.new)) }
+    ensures roomy { count ≤ room store.old → count ≤ room_of_log log.old → IsOk result }
+    ensures keeps_room { (room store.old ≤ room store.new) × (room_of_log log.old ≤ room_of_log log.new) }
 {
     store.reserve(count)?;
     log.reserve(count)
@@ -70,8 +70,8 @@ fn redo(
     ensures store { OnOk result ((place : Place) → stored store.new place ≡ redo_by_guard place (stored store.old place) (record { number = number; content = entry.now })) }
     ensures locks { OnOk result ((place : Place) → grants_at locks.new place ≡ grants_after entry.now place (grants_at locks.old place)) }
     ensures modes { OnOk result ((txn : TxnId) (place : Place) → held locks.new txn place ≡ locks_after (held locks.old) (record { number = number; content = entry.now }) txn place) }
-    ensures spare { spare store.old ≤ spare store.new + 1 }
-    ensures err_spare { OnErr result (spare store.old ≤ spare store.new) }
+    ensures room { room store.old ≤ room store.new + 1 }
+    ensures err_room { OnErr result (room store.old ≤ room store.new) }
     ensures err_store { OnErr result ((place : Place) → stored store.new place ≡ stored store.old place) }
     ensures err_locks { OnErr result ((place : Place) → grants_at locks.new place ≡ grants_at locks.old place) }
     ensures roomy { needs_no_memory entry.now ≡ true → IsOk result }
@@ -127,14 +127,14 @@ pub fn take(
     ensures locks { OnOk result ((txn : TxnId) (place : Place) → held locks.new txn place ≡ locks_after (held locks.old) (record { number = number; content = entry }) txn place) }
     ensures log { OnOk result (entries log.new ≡ entries log.old ++ record { number = number; content = entry } ∷ []) }
     ensures next { OnOk result (next_number log.new ≡ number + 1) }
-    ensures room { (spare store.old ≤ spare store.new + 1) × (spare_of_log log.old ≤ spare_of_log log.new + 1) }
+    ensures room { (room store.old ≤ room store.new + 1) × (room_of_log log.old ≤ room_of_log log.new + 1) }
     ensures store_of_log { OnOk result (IsStoreOf (stored store.old) (entries log.old) → IsStoreOf (stored store.new) (entries log.new)) }
     ensures locks_of_log { OnOk result (AreLocksOf (held locks.old) (entries log.old) → AreLocksOf (held locks.new) (entries log.new)) }
     ensures err_store { OnErr result ((place : Place) → stored store.new place ≡ stored store.old place) }
     ensures err_locks { OnErr result ((place : Place) → grants_at locks.new place ≡ grants_at locks.old place) }
     ensures err_log { OnErr result ((entries log.new ≡ entries log.old) × (next_number log.new ≡ next_number log.old)) }
-    ensures err_room { OnErr result ((spare store.old ≤ spare store.new) × (spare_of_log log.old ≤ spare_of_log log.new)) }
-    ensures roomy { needs_no_memory entry ≡ true → 1 ≤ spare_of_log log.old → IsOk result }
+    ensures err_room { OnErr result ((room store.old ≤ room store.new) × (room_of_log log.old ≤ room_of_log log.new)) }
+    ensures roomy { needs_no_memory entry ≡ true → 1 ≤ room_of_log log.old → IsOk result }
 {
     log.reserve(1)?;
     let redone = redo(alloc, store, locks, number, &entry)?;

@@ -3,7 +3,7 @@ ghost use Rattle.std.specs.Prelude.{◌≡◌, ◌+◌, ◌≤◌, ◌<◌, ◌=
 ghost use Rattle.std.specs.Option.{option_copied};
 ghost use Rattle.cl_types.specs.Places.{Place, same_place};
 ghost use Rattle.cl_log.specs.Store.{value_after, less};
-ghost use Rattle.cl_store.specs.Store.{stored, spare};
+ghost use Rattle.cl_store.specs.Store.{stored, room};
 ghost use Rattle.cl_redo.specs.Write.{guarded, redone_of, after_write, CanWrite, IsAbove};
 
 use crate::Redone;
@@ -63,9 +63,9 @@ pub(crate) fn guard(
     entry: &LogRec,
 ) -> Result<Guarded, NoMemory>
     ensures same { (place : Place) → stored store.new place ≡ stored store.old place }
-    ensures kept { spare store.old ≤ spare store.new }
+    ensures keeps_room { room store.old ≤ room store.new }
     ensures guarded { IfOk result (λ write. write ≡ guarded entry.now before (stored store.old (table.now, key.now))) }
-    ensures room { IfOk result (λ write. CanWrite write (spare store.new)) }
+    ensures room { IfOk result (λ write. CanWrite write (room store.new)) }
 {
     let (number, value) = store.get(table, key);
     if number != before {
@@ -85,8 +85,8 @@ pub(crate) fn finish(
     write: Guarded,
 ) -> Redone
     requires above { IsAbove write number (stored store.old (table.now, key.now)) }
-    requires room { CanWrite write (spare store.old) }
-    ensures spare { spare store.old ≤ spare store.new + 1 }
+    requires room { CanWrite write (room store.old) }
+    ensures room { room store.old ≤ room store.new + 1 }
     ensures redone { result ≡ redone_of write }
     ensures store { (place : Place) → stored store.new place
         ≡ (if same_place (table.now, key.now) place then after_write number write (stored store.old place) else stored store.old place) }

@@ -53,7 +53,7 @@ impl Roster {
         ensures same { self.new ≡ record self.old { room = self.new.room } }
         ensures ok { OnOk result (count ≤ self.new.room) }
         ensures roomy { count ≤ self.old.room → IsOk result }
-        ensures kept { self.old.room ≤ self.new.room }
+        ensures keeps_room { self.old.room ≤ self.new.room }
     {
         self.entries.reserve(count)
     }
@@ -65,7 +65,7 @@ impl Roster {
             (self.new ≡ record self.old { entries = self.old.entries ++ entry ∷ []; room = self.new.room }) }
         ensures err { OnErr result (self.new ≡ record self.old { room = self.new.room }) }
         ensures roomy { 1 ≤ self.old.room → IsOk result }
-        ensures kept { self.old.room ≤ self.new.room + 1 }
+        ensures keeps_room { self.old.room ≤ self.new.room + 1 }
     {
         self.entries.push(entry)?;
         self.standing.note(entry);

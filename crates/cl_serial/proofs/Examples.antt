@@ -8,18 +8,18 @@ use Rattle.cl_types.specs.declared.answers.Outcome.TheVariants.{Done, Begun, Com
 use Rattle.cl_lines.specs.declared.out.Out.TheVariants.{Answer}
 use Rattle.cl_lines.specs.Line.{line_of, command_of}
 use Rattle.cl_lines.specs.Words.{words}
-use Rattle.cl_serial.specs.Transcript.{Entry, fed, written, gather}
+use Rattle.cl_serial.specs.Transcript.{TranscriptEntry, fed, written, gather}
 use Rattle.cl_serial.specs.Exchanges.{pair_up, in_turn}
 use Rattle.cl_serial.specs.Transactions.{session_step}
 use Rattle.cl_serial.specs.PlainMap.{no_values, RepliesAgree}
 use Rattle.cl_serial.specs.Serial.{operations_of}
 
 -- a line of session 1 and its answer
-abbrev exchange : ℕ → List ℕ → Outcome → List Entry → List Entry
+abbrev exchange : ℕ → List ℕ → Outcome → List TranscriptEntry → List TranscriptEntry
 exchange number text outcome rest = fed number text ∷ written (Answer 1 outcome) ∷ rest
 
 -- the first puts x at key a of table t, the second reads it
-abbrev two_transactions : List Entry
+abbrev two_transactions : List TranscriptEntry
 two_transactions =
     exchange 1 (codes "1 BEGIN") Begun
     (exchange 2 (codes "1 PUT t a x") (Done Stored)

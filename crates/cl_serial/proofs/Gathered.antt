@@ -3,20 +3,20 @@ use Rattle.std.proofs.Common.{◌≡◌, ℕ, suc, ◌+◌, ◌≤◌, List, [],
 use Rattle.std.proofs.lemmas.List.{append-nil}
 use Rattle.cl_types.specs.declared.operations.Command.{Command}
 use Rattle.cl_types.specs.declared.answers.Outcome.{Outcome}
-use Rattle.cl_serial.specs.Transcript.{Entry, fed, written, gather, fed_line, fed_lines}
+use Rattle.cl_serial.specs.Transcript.{TranscriptEntry, fed, written, gather, fed_line, fed_lines}
 use Rattle.cl_lines.specs.declared.out.Out.{Out}
 use Rattle.cl_serial.specs.Exchanges.{Exchange, pair_up, in_turn}
 
 -- what is gathered of two lists of entries, one behind the other
-pub gather-append : {A : Type 0} (pick : ℕ → Entry → List A) (place : ℕ) (xs ys : List Entry) → gather pick place (xs ++ ys) ≡ gather pick place xs ++ gather pick (place + length xs) ys
+pub gather-append : {A : Type 0} (pick : ℕ → TranscriptEntry → List A) (position : ℕ) (xs ys : List TranscriptEntry) → gather pick position (xs ++ ys) ≡ gather pick position xs ++ gather pick (position + length xs) ys
 unfolding gather
-gather-append pick place [] ys = ap (λ n. gather pick n ys) (omega arith)
-gather-append pick place (x ∷ xs) ys =
-    ap (λ more. pick place x ++ more) (gather-append pick (suc place) xs ys ∙ ap (λ n. gather pick (suc place) xs ++ gather pick n ys) (omega arith))
-    ∙ sym (append_assoc (pick place x) (gather pick (suc place) xs) (gather pick (place + length (x ∷ xs)) ys))
+gather-append pick position [] ys = ap (λ n. gather pick n ys) (omega arith)
+gather-append pick position (x ∷ xs) ys =
+    ap (λ more. pick position x ++ more) (gather-append pick (suc position) xs ys ∙ ap (λ n. gather pick (suc position) xs ++ gather pick n ys) (omega arith))
+    ∙ sym (append_assoc (pick position x) (gather pick (suc position) xs) (gather pick (position + length (x ∷ xs)) ys))
 
 -- one more entry
-pub gather-push : {A : Type 0} (pick : ℕ → Entry → List A) (xs : List Entry) (y : Entry) → gather pick 0 (xs ++ y ∷ []) ≡ gather pick 0 xs ++ pick (length xs) y
+pub gather-push : {A : Type 0} (pick : ℕ → TranscriptEntry → List A) (xs : List TranscriptEntry) (y : TranscriptEntry) → gather pick 0 (xs ++ y ∷ []) ≡ gather pick 0 xs ++ pick (length xs) y
 unfolding gather
 gather-push pick xs y = gather-append pick 0 xs (y ∷ []) ∙ ap (λ more. gather pick 0 xs ++ more) (append-nil (pick (0 + length xs) y) ∙ ap (λ n. pick n y) (omega arith))
 
@@ -70,9 +70,9 @@ in_turn-pair_up (q ∷ asked) [] h = absurd (omega arith)
 in_turn-pair_up (q ∷ asked) (a ∷ given) h = ap (λ more. answered q a ∷ more) (in_turn-pair_up asked given (omega arith))
 
 -- the lines that were fed, with one more
-pub fed_lines-fed : (transcript : List Entry) (number : ℕ) (text : List ℕ) → fed_lines (transcript ++ fed number text ∷ []) ≡ fed_lines transcript ++ (number, text) ∷ []
+pub fed_lines-fed : (transcript : List TranscriptEntry) (number : ℕ) (text : List ℕ) → fed_lines (transcript ++ fed number text ∷ []) ≡ fed_lines transcript ++ (number, text) ∷ []
 fed_lines-fed transcript number text = gather-push fed_line transcript (fed number text)
 
 -- what is written feeds no line
-pub fed_lines-written : (transcript : List Entry) (out : Out) → fed_lines (transcript ++ written out ∷ []) ≡ fed_lines transcript
+pub fed_lines-written : (transcript : List TranscriptEntry) (out : Out) → fed_lines (transcript ++ written out ∷ []) ≡ fed_lines transcript
 fed_lines-written transcript out = gather-push fed_line transcript (written out) ∙ append-nil (fed_lines transcript)

@@ -1,7 +1,7 @@
 -- The lines of the bytes that are read.
 use Rattle.std.specs.Prelude.{◌≡◌, ℕ, ◌++◌, List, [], ◌∷◌, ◌==◌, if◌then◌else◌, take, map}
 use Rattle.std.specs.List.{enumerate_from, onto_first}
-use Rattle.cl_serial.specs.Transcript.{Entry, fed_lines}
+use Rattle.cl_serial.specs.Transcript.{TranscriptEntry, fed_lines}
 
 -- of a line that is too long the first 257 bytes are kept
 abbrev pub kept_line : List ℕ → List ℕ
@@ -17,5 +17,5 @@ abbrev pub lines_of : List ℕ → List (ℕ × List ℕ)
 lines_of bytes = enumerate_from 1 (map kept_line (whole_lines bytes))
 
 -- the lines that were fed are the first lines of the bytes
-abbrev pub FeedsFirstLines : List Entry → List ℕ → Type 0
+abbrev pub FeedsFirstLines : List TranscriptEntry → List ℕ → Type 0
 FeedsFirstLines transcript bytes = (rest : List (ℕ × List ℕ)) × (lines_of bytes ≡ fed_lines transcript ++ rest)

@@ -2,9 +2,9 @@
 use Rattle.std.specs.Prelude.{ℕ, List, [], ◌∷◌, Option, Some, None}
 use Rattle.cl_types.specs.declared.operations.Command.{Command}
 use Rattle.cl_types.specs.declared.answers.Outcome.{Outcome}
-use Rattle.cl_serial.specs.Transcript.{Entry, questions, answers}
+use Rattle.cl_serial.specs.Transcript.{TranscriptEntry, questions, answers}
 
--- a command, the place of its line, and its answer with the place of that, where there is one
+-- a command, the position of its line, and its answer with the position of that, where there is one
 pub record Exchange : Type 0 where
   pub command : Command
   pub line : ℕ
@@ -17,7 +17,7 @@ pair_up (asked ∷ rest) [] = record { command = asked.0; line = asked.1; answer
 pair_up (asked ∷ rest) (answer ∷ given) = record { command = asked.0; line = asked.1; answer = Some answer } ∷ pair_up rest given
 
 -- the exchanges of a session, in the order of its lines
-abbrev pub exchanges : ℕ → List Entry → List Exchange
+abbrev pub exchanges : ℕ → List TranscriptEntry → List Exchange
 exchanges session transcript = pair_up (questions session transcript) (answers session transcript)
 
 -- the outcome of an exchange, where it was answered

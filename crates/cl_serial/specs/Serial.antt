@@ -1,6 +1,7 @@
 -- What the kept history promises of a transcript.
 use Rattle.std.specs.Prelude.{◌≡◌, ℕ, ◌<◌, List, ◌++◌, length, Some, None, IsSome, slice_get, take, ◌↔◌}
 use Rattle.std.specs.List.{flat_map}
+use Rattle.cl_types.specs.declared.limits.TheConstants.{OPERATIONS_MAX}
 use Rattle.cl_types.specs.declared.operations.Command.{Command}
 use Rattle.cl_types.specs.declared.operations.Command.TheVariants.{Begin, Work, Commit, Abort}
 use Rattle.cl_types.specs.declared.operations.TxnId.{TxnId}
@@ -11,65 +12,69 @@ use Rattle.cl_types.specs.declared.answers.Outcome.TheVariants.{Done, Begun, Com
 use Rattle.cl_lines.specs.declared.line.LineFault.{LineFault}
 use Rattle.cl_lines.specs.declared.out.Out.TheVariants.{Answer, BadLine}
 use Rattle.cl_lines.specs.Line.{fault_of}
-use Rattle.cl_serial.specs.Transcript.{Entry, fed, written, questions, answers, faulty_lines, refusals}
+use Rattle.cl_serial.specs.Transcript.{TranscriptEntry, fed, written, questions, answers, faulty_lines, refusals}
 use Rattle.cl_serial.specs.Exchanges.{Exchange, exchanges, outcome_of}
 use Rattle.cl_serial.specs.Transactions.{Transaction, Session, session_after, transaction_of, commands_of}
-use Rattle.cl_serial.specs.PlainMap.{Operation, operations, no_values, RepliesAgree}
+use Rattle.cl_serial.specs.PlainMap.{Values, Operation, operations, no_values, after_operations, RepliesAgree}
 
--- x stands at this place of the list
+-- x stands at this position of the list
 abbrev pub StandsAt : {X : Type 0} → List X → ℕ → X → Type 0
-StandsAt list place x = slice_get list place ≡ Some x
+StandsAt list position x = slice_get list position ≡ Some x
 
 -- x is in the list
 abbrev pub IsIn : {X : Type 0} → List X → X → Type 0
-IsIn list x = (place : ℕ) × StandsAt list place x
+IsIn list x = (position : ℕ) × StandsAt list position x
 
 -- the transaction has a command of this kind
-abbrev pub Asks : List Entry → TxnId → Command → Type 0
+abbrev pub Asks : List TranscriptEntry → TxnId → Command → Type 0
 Asks transcript name command = (exchange : Exchange) × IsIn (commands_of transcript name) exchange × (exchange.command ≡ command)
 
--- a command of the transaction was answered with this outcome, written at this place
-abbrev pub IsAnswered : List Entry → TxnId → Outcome → ℕ → Type 0
-IsAnswered transcript name outcome place =
-    (exchange : Exchange) × IsIn (commands_of transcript name) exchange × (exchange.answer ≡ Some (outcome, place))
+-- a command of the transaction was answered with this outcome, written at this position
+abbrev pub IsAnswered : List TranscriptEntry → TxnId → Outcome → ℕ → Type 0
+IsAnswered transcript name outcome position =
+    (exchange : Exchange) × IsIn (commands_of transcript name) exchange × (exchange.answer ≡ Some (outcome, position))
 
--- the line BEGIN of the transaction stands at this place
-abbrev pub BeginsAt : List Entry → TxnId → ℕ → Type 0
-BeginsAt transcript name place = (transaction : Transaction) × (transaction_of transcript name ≡ Some transaction) × (transaction.begin ≡ place)
+-- the line BEGIN of the transaction stands at this position
+abbrev pub BeginsAt : List TranscriptEntry → TxnId → ℕ → Type 0
+BeginsAt transcript name position = (transaction : Transaction) × (transaction_of transcript name ≡ Some transaction) × (transaction.begin ≡ position)
 
 -- the operations of the history's members, in the order of the history and of their lines
-abbrev pub operations_of : List Entry → List TxnId → List Operation
+abbrev pub operations_of : List TranscriptEntry → List TxnId → List Operation
 operations_of transcript history = flat_map (λ name. operations (commands_of transcript name)) history
 
+-- the map after the history: its members' operations done one after another from the empty map
+abbrev pub values_after : List TranscriptEntry → List TxnId → Values
+values_after transcript history = after_operations no_values (operations_of transcript history)
+
 -- the history fits the transcript
-pub record HistoryFits (transcript : List Entry) (history : List TxnId) : Type 0 where
+pub record HistoryFits (transcript : List TranscriptEntry) (history : List TxnId) : Type 0 where
   -- its members differ
   pub distinct : (i j : ℕ) (name : TxnId) → StandsAt history i name → StandsAt history j name → i ≡ j
   -- each has COMMIT among its commands
   pub committing : (name : TxnId) → IsIn history name → Asks transcript name Commit
   -- each transaction with the reply COMMITTED is a member
-  pub committed_listed : (name : TxnId) (place : ℕ) → IsAnswered transcript name Committed place → IsIn history name
+  pub committed_listed : (name : TxnId) (position : ℕ) → IsAnswered transcript name Committed position → IsIn history name
   -- and has that reply once
   pub committed_once : (name : TxnId) (p q : ℕ) → IsAnswered transcript name Committed p → IsAnswered transcript name Committed q → p ≡ q
   -- no transaction with a reply ABORTED is a member
-  pub aborted_absent : (name : TxnId) (cause : AbortCause) (place : ℕ) → IsAnswered transcript name (Aborted cause) place → IsIn history name → ⊥
+  pub aborted_absent : (name : TxnId) (cause : AbortCause) (position : ℕ) → IsAnswered transcript name (Aborted cause) position → IsIn history name → ⊥
   -- the members' operations, done one after another from the empty map, give the replies of the transcript
   pub replies_replay : RepliesAgree no_values (operations_of transcript history)
 
 -- COMMITTED is written only for members of the history
-abbrev pub CommittedForMembers : List Entry → List TxnId → Type 0
-CommittedForMembers transcript history = (session place : ℕ) → StandsAt transcript place (written (Answer session Committed)) →
-    (number : ℕ) × IsIn history (record { session = session; number = number }) × IsAnswered transcript (record { session = session; number = number }) Committed place
+abbrev pub CommittedForMembers : List TranscriptEntry → List TxnId → Type 0
+CommittedForMembers transcript history = (session position : ℕ) → StandsAt transcript position (written (Answer session Committed)) →
+    (number : ℕ) × IsIn history (record { session = session; number = number }) × IsAnswered transcript (record { session = session; number = number }) Committed position
 
 -- where COMMITTED of one member stands before BEGIN of another, they stand so in the history
-abbrev pub RealTimeOrder : List Entry → List TxnId → Type 0
+abbrev pub RealTimeOrder : List TranscriptEntry → List TxnId → Type 0
 RealTimeOrder transcript history = (i j : ℕ) (x y : TxnId) (committed began : ℕ) → StandsAt history i x → StandsAt history j y →
     IsAnswered transcript x Committed committed → BeginsAt transcript y began → committed < began → i < j
 
 -- the k-th answer of a session answers its k-th well-formed line, which stands before it
-abbrev pub AnswersFollow : List Entry → Type 0
-AnswersFollow transcript = (session k : ℕ) (outcome : Outcome) (place : ℕ) → StandsAt (answers session transcript) k (outcome, place) →
-    (command : Command) × (line : ℕ) × StandsAt (questions session transcript) k (command, line) × (line < place)
+abbrev pub AnswersFollow : List TranscriptEntry → Type 0
+AnswersFollow transcript = (session k : ℕ) (outcome : Outcome) (position : ℕ) → StandsAt (answers session transcript) k (outcome, position) →
+    (command : Command) × (line : ℕ) × StandsAt (questions session transcript) k (command, line) × (line < position)
 
 -- the command is an operation
 abbrev pub IsOperation : Command → Type 0
@@ -78,9 +83,9 @@ IsOperation (Work table key op) = Unit {0}
 IsOperation Commit = ⊥
 IsOperation Abort = ⊥
 
--- a transaction that has the most operations, which are 64
+-- a transaction that has the most operations
 abbrev pub IsFull : Transaction → Type 0
-IsFull transaction = length (operations transaction.commands) ≡ 64
+IsFull transaction = length (operations transaction.commands) ≡ OPERATIONS_MAX
 
 -- in a transaction, of which the fact holds
 abbrev pub InTransaction : Session → (Transaction → Type 0) → Type 0
@@ -92,7 +97,7 @@ pub record FitsTurn (session : Session) (command : Command) (outcome : Outcome) 
   pub not_txn : (outcome ≡ NotTxn) ↔ ((session.current ≡ None) × (command ≡ Begin → ⊥))
   -- for BEGIN in a transaction
   pub in_txn : (outcome ≡ InTxn) ↔ (InTransaction session (λ _. Unit {0}) × (command ≡ Begin))
-  -- for an operation in a transaction that has 64
+  -- for an operation in a transaction that has the most operations
   pub full : (outcome ≡ Full) ↔ (InTransaction session IsFull × IsOperation command)
   -- for BEGIN outside a transaction
   pub begun : (outcome ≡ Begun) ↔ ((session.current ≡ None) × (command ≡ Begin))
@@ -104,27 +109,27 @@ pub record FitsTurn (session : Session) (command : Command) (outcome : Outcome) 
   pub aborted : (cause : AbortCause) → outcome ≡ Aborted cause → InTransaction session (λ _. Unit {0}) × (command ≡ Begin → ⊥)
 
 -- each answer fits the session as the exchanges before it left it
-abbrev pub AnswersFitTurns : List Entry → Type 0
+abbrev pub AnswersFitTurns : List TranscriptEntry → Type 0
 AnswersFitTurns transcript = (session k : ℕ) (exchange : Exchange) (outcome : Outcome) → StandsAt (exchanges session transcript) k exchange →
     outcome_of exchange ≡ Some outcome → FitsTurn (session_after (take k (exchanges session transcript))) exchange.command outcome
 
 -- a line is refused only where it was fed and has that fault
-abbrev pub RefusalsTrue : List Entry → Type 0
-RefusalsTrue transcript = (place line : ℕ) (fault : LineFault) → StandsAt transcript place (written (BadLine line fault)) →
-    (before : ℕ) × (text : List ℕ) × (before < place) × StandsAt transcript before (fed line text) × (fault_of text ≡ Some fault)
+abbrev pub RefusalsTrue : List TranscriptEntry → Type 0
+RefusalsTrue transcript = (position line : ℕ) (fault : LineFault) → StandsAt transcript position (written (BadLine line fault)) →
+    (before : ℕ) × (text : List ℕ) × (before < position) × StandsAt transcript before (fed line text) × (fault_of text ≡ Some fault)
 
 -- the refusals are those of the first lines with a fault, each once and in their order
-abbrev pub RefusalsOnce : List Entry → Type 0
+abbrev pub RefusalsOnce : List TranscriptEntry → Type 0
 RefusalsOnce transcript = (rest : List (ℕ × LineFault)) × (faulty_lines transcript ≡ refusals transcript ++ rest)
 
 -- each well-formed client line is answered, and each line with a fault is refused
-pub record EveryLineAnswered (transcript : List Entry) : Type 0 where
+pub record EveryLineAnswered (transcript : List TranscriptEntry) : Type 0 where
   pub answered : (session k : ℕ) (exchange : Exchange) → StandsAt (exchanges session transcript) k exchange → IsSome (outcome_of exchange)
-  pub refused : (place line : ℕ) (text : List ℕ) (fault : LineFault) → StandsAt transcript place (fed line text) → fault_of text ≡ Some fault →
-      (after : ℕ) × (place < after) × StandsAt transcript after (written (BadLine line fault))
+  pub refused : (position line : ℕ) (text : List ℕ) (fault : LineFault) → StandsAt transcript position (fed line text) → fault_of text ≡ Some fault →
+      (after : ℕ) × (position < after) × StandsAt transcript after (written (BadLine line fault))
 
 -- the guarantee: the history explains the transcript, one transaction after another
-pub record Serializable (transcript : List Entry) (history : List TxnId) : Type 0 where
+pub record Serializable (transcript : List TranscriptEntry) (history : List TxnId) : Type 0 where
   pub history_fits : HistoryFits transcript history
   pub committed_for_members : CommittedForMembers transcript history
   pub real_time_order : RealTimeOrder transcript history

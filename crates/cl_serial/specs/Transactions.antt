@@ -6,10 +6,10 @@ use Rattle.cl_types.specs.declared.operations.Command.TheVariants.{Begin, Work, 
 use Rattle.cl_types.specs.declared.operations.TxnId.{TxnId}
 use Rattle.cl_types.specs.declared.answers.Outcome.{Outcome}
 use Rattle.cl_types.specs.declared.answers.Outcome.TheVariants.{Done, Begun, Committed, Aborted, NotTxn, InTxn, Full}
-use Rattle.cl_serial.specs.Transcript.{Entry}
+use Rattle.cl_serial.specs.Transcript.{TranscriptEntry}
 use Rattle.cl_serial.specs.Exchanges.{Exchange, exchanges, in_turn, outcome_of}
 
--- a transaction: the place of its BEGIN line, and the exchanges of its commands
+-- a transaction: the position of its BEGIN line, and the exchanges of its commands
 pub record Transaction : Type 0 where
   pub begin : ℕ
   pub commands : List Exchange
@@ -77,12 +77,12 @@ abbrev pub session_after : List Exchange → Session
 session_after list = fold session_step new_session list
 
 -- a session as the transcript shows it
-abbrev pub session_of : ℕ → List Entry → Session
-session_of session transcript = session_after (in_turn (exchanges session transcript))
+abbrev pub session_state : ℕ → List TranscriptEntry → Session
+session_state session transcript = session_after (in_turn (exchanges session transcript))
 
 -- the transactions of a session, the one that it is in last
-abbrev pub transactions : ℕ → List Entry → List Transaction
-transactions session transcript = let state = session_of session transcript in state.ended ++ option_to_list state.current
+abbrev pub transactions : ℕ → List TranscriptEntry → List Transaction
+transactions session transcript = let state = session_state session transcript in state.ended ++ option_to_list state.current
 
 -- the transaction of this number, counted from 1
 abbrev pub numbered : List Transaction → ℕ → Option Transaction
@@ -90,7 +90,7 @@ numbered list zero = None
 numbered list (suc k) = slice_get list k
 
 -- the transaction of a name
-abbrev pub transaction_of : List Entry → TxnId → Option Transaction
+abbrev pub transaction_of : List TranscriptEntry → TxnId → Option Transaction
 transaction_of transcript name = numbered (transactions name.session transcript) name.number
 
 abbrev pub commands_in : Option Transaction → List Exchange
@@ -98,5 +98,5 @@ commands_in None = []
 commands_in (Some transaction) = transaction.commands
 
 -- the commands of a transaction, with their answers
-abbrev pub commands_of : List Entry → TxnId → List Exchange
+abbrev pub commands_of : List TranscriptEntry → TxnId → List Exchange
 commands_of transcript name = commands_in (transaction_of transcript name)

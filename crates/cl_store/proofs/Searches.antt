@@ -7,7 +7,7 @@ use Rattle.std.proofs.lemmas.List.Elements.{All-map}
 use Rattle.std.proofs.lemmas.List.Sorted.{searchable_from_sorted}
 use Rattle.std.proofs.lemmas.Map.Keys.{Less-from_sorted}
 use Rattle.cl_types.specs.Places.{Place}
-use Rattle.cl_store.specs.declared.entry.Entry.{Entry}
+use Rattle.cl_store.specs.declared.hashed_item.HashedItem.{HashedItem}
 use Rattle.cl_store.specs.ScanOrder.{scan_order}
 use Rattle.cl_store.specs.Items.{place_of, IsInScanOrder}
 use Rattle.cl_store.specs.Entries.{items_of}
@@ -15,11 +15,11 @@ use Rattle.cl_store.specs.Search.{IsFoundAt, BelongsAt}
 use Rattle.cl_store.proofs.Places.{scan_order-total, scan_order-flip, scan_order-Equal}
 use Rattle.cl_store.proofs.Parts.{HoldsAt-map, All-take_within, All-drop_within}
 
-abbrev place_at : Entry → Place
+abbrev place_at : HashedItem → Place
 place_at entry = place_of entry.item
 
 -- the orders to a place rise along the entries, as a binary search asks
-orders_rise : (entries : List Entry) (place : Place) → IsInScanOrder (items_of entries) → IsNonDecreasingBy (λ entry. ordering_index (scan_order (place_at entry) place)) entries
+orders_rise : (entries : List HashedItem) (place : Place) → IsInScanOrder (items_of entries) → IsNonDecreasingBy (λ entry. ordering_index (scan_order (place_at entry) place)) entries
 orders_rise entries place sorted =
     searchable_from_sorted scan_order-total place_at entries place (λ k d low inside.
     (let at : (i : ℕ) → i < length entries → get_or (map place_of (items_of entries)) i (place_at d) ≡ place_at (get_or entries i d) =
@@ -29,7 +29,7 @@ orders_rise entries place sorted =
     ap is_lt (scan_order-flip _ _ (rw (at k (omega arith), at (k + 1) (omega arith)) at less))))
 
 -- a binary search ends at the place, or where the place belongs
-pub searched : (entries : List Entry) (place : Place) (r : Result ℕ ℕ) → IsInScanOrder (items_of entries) → IsSearchInRange r (length entries) →
+pub searched : (entries : List HashedItem) (place : Place) (r : Result ℕ ℕ) → IsInScanOrder (items_of entries) → IsSearchInRange r (length entries) →
     IsBinarySearchResult (λ entry. scan_order (place_at entry) place) entries r →
     record { found : IfOk r (IsFoundAt (items_of entries) place); absent : IfErr r (BelongsAt (items_of entries) place) }
 searched entries place (Ok at) sorted inside ties = record {

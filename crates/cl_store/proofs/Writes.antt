@@ -4,7 +4,7 @@ use Rattle.std.specs.List.{All, insert}
 use Rattle.std.specs.List.Sorted.{IsStrictlySortedBy}
 use Rattle.std.proofs.lemmas.List.{take-append-drop, take_rest, take_min, set_split, map-set, map-append, take-map, drop-map, length-map, get_or-map}
 use Rattle.cl_types.specs.Places.{Place, same_place}
-use Rattle.cl_store.specs.declared.entry.Entry.{Entry}
+use Rattle.cl_store.specs.declared.hashed_item.HashedItem.{HashedItem}
 use Rattle.cl_store.specs.ScanOrder.{scan_order}
 use Rattle.cl_store.specs.Items.{place_of, stored_at, IsInScanOrder}
 use Rattle.cl_store.specs.Entries.{items_of}
@@ -22,9 +22,9 @@ set_at : {X : Type 0} (xs : List X) (at : ℕ) (x : X) → at < length xs → se
 set_at xs at x inside = set_split xs at x inside ∙ ap (λ n. take at xs ++ x ∷ drop n xs) (let same : suc at ≡ at + 1 = omega arith in same)
 
 -- the entry at an index, with another number and value
-module _ (entries : List Entry) (place : Place) (at : ℕ) (sorted : IsInScanOrder (items_of entries)) (found : IsFoundAt (items_of entries) place at) (old : Entry) (read : old ≡ get_or entries at old) where
+module _ (entries : List HashedItem) (place : Place) (at : ℕ) (sorted : IsInScanOrder (items_of entries)) (found : IsFoundAt (items_of entries) place at) (old : HashedItem) (read : old ≡ get_or entries at old) where
   item_read : old.item ≡ get_or (items_of entries) at old.item
-  item_read = ap (λ (entry : Entry). entry.item) read ∙ sym (get_or-map (λ entry. entry.item) entries at old old.item (omega (arith, found.in_range, length-map entries (λ entry. entry.item))))
+  item_read = ap (λ (entry : HashedItem). entry.item) read ∙ sym (get_or-map (λ entry. entry.item) entries at old old.item (omega (arith, found.in_range, length-map entries (λ entry. entry.item))))
 
   pub stored_at-entry : stored_at (items_of entries) place ≡ said old.item
   stored_at-entry = stored_at-found (items_of entries) place at sorted found old.item item_read
@@ -32,7 +32,7 @@ module _ (entries : List Entry) (place : Place) (at : ℕ) (sorted : IsInScanOrd
   split : items_of entries ≡ take at (items_of entries) ++ old.item ∷ drop (at + 1) (items_of entries)
   split = split_at (items_of entries) at old.item found.in_range item_read
 
-  module _ (new : Entry) (number : ℕ) (value : Option (List ℕ)) (overwritten : new.item ≡ record old.item { number = number; value = value }) where
+  module _ (new : HashedItem) (number : ℕ) (value : Option (List ℕ)) (overwritten : new.item ≡ record old.item { number = number; value = value }) where
     same : place_of new.item ≡ place_of old.item
     same = ap place_of overwritten
 
@@ -53,7 +53,7 @@ module _ (entries : List Entry) (place : Place) (at : ℕ) (sorted : IsInScanOrd
         ∙ ap (λ item. cond (same_place place other) (said item) (stored_at (items_of entries) other)) overwritten
 
 -- one entry more, where its place belongs
-module _ (entries : List Entry) (place : Place) (at : ℕ) (belongs : BelongsAt (items_of entries) place at) (new : Entry) (at_place : place_of new.item ≡ place) where
+module _ (entries : List HashedItem) (place : Place) (at : ℕ) (belongs : BelongsAt (items_of entries) place at) (new : HashedItem) (at_place : place_of new.item ≡ place) where
   whole : take at (items_of entries) ++ drop at (items_of entries) ≡ items_of entries
   whole = take-append-drop at (items_of entries)
 
@@ -82,13 +82,13 @@ module _ (entries : List Entry) (place : Place) (at : ℕ) (belongs : BelongsAt 
       ∙ ap (λ p. cond (same_place p other) (said new.item) (stored_at (items_of entries) other)) at_place
 
 -- the first of the entries from an index on
-pub items_of-part : (entries : List Entry) (start count max : ℕ) → count ≡ min max (length (take (length entries - start) (drop start entries))) →
+pub items_of-part : (entries : List HashedItem) (start count max : ℕ) → count ≡ min max (length (take (length entries - start) (drop start entries))) →
     items_of (take count (take (length entries - start) (drop start entries))) ≡ take max (drop start (items_of entries))
 items_of-part entries start count max least =
     let rest = drop start entries in
     let whole : take (length entries - start) rest ≡ rest = take_rest entries start in
     ap (λ xs. items_of (take count xs)) whole
-    ∙ ap (λ n. items_of (take n rest)) (least ∙ ap (λ (xs : List Entry). min max (length xs)) whole)
+    ∙ ap (λ n. items_of (take n rest)) (least ∙ ap (λ (xs : List HashedItem). min max (length xs)) whole)
     ∙ ap items_of (take_min max rest)
     ∙ sym (take-map (λ entry. entry.item) max rest)
     ∙ ap (take max) (sym (drop-map (λ entry. entry.item) start entries))

@@ -11,8 +11,8 @@ unfoldable pub records : Store → List Item
 records store = items_of store.entries.items
 
 -- for how many more records there is room
-unfoldable pub spare : Store → ℕ
-spare store = vec_capacity store.entries - vec_len store.entries
+unfoldable pub room : Store → ℕ
+room store = vec_capacity store.entries - vec_len store.entries
 
 -- what stands at a place: the state number, which is 0 where it was never written, and the value
 abbrev pub stored : Store → Place → Stored

@@ -6,13 +6,13 @@ ghost use Rattle.cl_store.specs.Items.{IsInScanOrder, records_after, place_read,
 ghost use Rattle.cl_store.specs.Search.{IsFoundAt, BelongsAt};
 
 use crate::ItemList;
-use crate::entry::Entry;
+use crate::hashed_item::HashedItem;
 use cl_types::{Key, NoMemory, TableName, hash};
 use std::alloc::Global;
 
 // Where the record of a place is, or where it would be. It computes one hash, and makes comparisons as the
 // logarithm of the number of records.
-pub(crate) fn find(entries: &[Entry], table: &TableName, key: &Key) -> Result<usize, usize>
+pub(crate) fn find(entries: &[HashedItem], table: &TableName, key: &Key) -> Result<usize, usize>
     requires { IsInScanOrder (items_of entries.now) }
     ensures found { IfOk result (IsFoundAt (items_of entries.now) (table.now, key.now)) }
     ensures absent { IfErr result (BelongsAt (items_of entries.now) (table.now, key.now)) }
@@ -22,7 +22,7 @@ pub(crate) fn find(entries: &[Entry], table: &TableName, key: &Key) -> Result<us
 }
 
 // Where the records after a place begin, or all of them where there is no place.
-pub(crate) fn index_after(entries: &[Entry], after: Option<(&TableName, &Key)>) -> usize
+pub(crate) fn index_after(entries: &[HashedItem], after: Option<(&TableName, &Key)>) -> usize
     requires { IsInScanOrder (items_of entries.now) }
     ensures within { result ≤ length entries.now }
     ensures rest { drop result (items_of entries.now) ≡ records_after (items_of entries.now) (place_read after.entry) }
@@ -37,7 +37,7 @@ pub(crate) fn index_after(entries: &[Entry], after: Option<(&TableName, &Key)>) 
 }
 
 // How many records have a value.
-pub(crate) fn live_count(entries: &[Entry]) -> u64
+pub(crate) fn live_count(entries: &[HashedItem]) -> u64
     ensures { result ≡ live (items_of entries.now) }
 {
     entries
@@ -47,7 +47,7 @@ pub(crate) fn live_count(entries: &[Entry]) -> u64
 }
 
 // The records alone, copied.
-pub(crate) fn copied_items(alloc: Global, entries: &[Entry]) -> Result<ItemList, NoMemory>
+pub(crate) fn copied_items(alloc: Global, entries: &[HashedItem]) -> Result<ItemList, NoMemory>
     ensures ok { IfOk result (λ list. items list ≡ items_of entries.now) }
     ensures none { items_of entries.now ≡ [] → IsOk result }
 {

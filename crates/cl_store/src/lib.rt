@@ -2,7 +2,7 @@
 #![tactic(auto)]
 
 mod entries;
-mod entry;
+mod hashed_item;
 mod item;
 mod laws;
 mod store;

@@ -3,7 +3,7 @@ ghost use Rattle.cl_store.specs.Entries.{items_of};
 ghost use Rattle.cl_store.specs.Items.{IsInScanOrder};
 ghost use Rattle.std.proofs.Props.{props};
 
-use crate::entry::Entry;
+use crate::hashed_item::HashedItem;
 use crate::{Item, ItemList, entries};
 use cl_types::{Key, NoMemory, TableName, Value};
 use std::alloc::Global;
@@ -11,27 +11,27 @@ use std::alloc::Global;
 /// Records with their state numbers: a map from places, each a table and a key.
 ///
 /// Contracts see the records in scan order, which is by the hash of the key, then by table, then by key
-/// (`records`), what stands at each place (`stored`), and for how many more records there is room (`spare`).
+/// (`records`), what stands at each place (`stored`), and for how many more records there is room (`room`).
 #[derive(Debug, Drop)]
 pub struct Store {
-    entries: Vec<Entry>,
+    entries: Vec<HashedItem>,
     alloc: Global,
     ghost in_order: { IsInScanOrder (items_of entries.items) } by { Prim.hlevel props },
 }
 
-#[tactic(auto, unfolding(crate::specs::Store::records, crate::specs::Store::spare))]
+#[tactic(auto, unfolding(crate::specs::Store::records, crate::specs::Store::room))]
 impl Store {
     ghost use Rattle.std.specs.Prelude.{◌≡◌, ◌+◌, ◌<◌, ◌≤◌, ◌⊎◌, [], OnOk, IsOk, IfOk, if◌then◌else◌};
     ghost use Rattle.std.specs.Option.{option_copied};
     ghost use Rattle.cl_types.specs.GrowingList.{items};
     ghost use Rattle.cl_types.specs.Places.{Place, same_place};
     ghost use Rattle.cl_store.specs.Items.{scanned, place_read, live};
-    ghost use Rattle.cl_store.specs.Store.{records, spare, stored};
+    ghost use Rattle.cl_store.specs.Store.{records, room, stored};
 
     /// A store in which nothing was written. It takes no memory.
     pub fn new(alloc: Global) -> Store
         ensures records { records result ≡ [] }
-        ensures spare { spare result ≡ 0 }
+        ensures room { room result ≡ 0 }
     {
         Store {
             entries: Vec::new(alloc),
@@ -59,9 +59,9 @@ impl Store {
     /// Makes room for `n` more records. The records stay, whatever the answer.
     pub fn reserve(&mut self, n: usize) -> Result<(), NoMemory>
         ensures records { records self.new ≡ records self.old }
-        ensures ok { OnOk result (n ≤ spare self.new) }
-        ensures roomy { n ≤ spare self.old → IsOk result }
-        ensures kept { spare self.old ≤ spare self.new }
+        ensures ok { OnOk result (n ≤ room self.new) }
+        ensures roomy { n ≤ room self.old → IsOk result }
+        ensures keeps_room { room self.old ≤ room self.new }
     {
         self.entries.reserve(n)?;
         Ok(())
@@ -73,11 +73,11 @@ impl Store {
     /// The value that stood there is dropped.
     pub fn write(&mut self, table: &TableName, key: &Key, value: Option<Value>, number: u64)
         requires above { (stored self.old (table.now, key.now)).0 < number }
-        requires room { (0 < (stored self.old (table.now, key.now)).0) ⊎ (1 ≤ spare self.old) }
+        requires room { (0 < (stored self.old (table.now, key.now)).0) ⊎ (1 ≤ room self.old) }
         ensures stored { (other : Place) → stored self.new other
             ≡ (if same_place (table.now, key.now) other then (number, value) else stored self.old other) }
-        ensures spare { spare self.old ≤ spare self.new + 1 }
-        ensures kept { 0 < (stored self.old (table.now, key.now)).0 → spare self.old ≤ spare self.new }
+        ensures room { room self.old ≤ room self.new + 1 }
+        ensures keeps_room { 0 < (stored self.old (table.now, key.now)).0 → room self.old ≤ room self.new }
     {
         match entries::find(&self.entries, table, key) {
             Ok(at) => self.entries[at].overwrite(number, value),
@@ -88,7 +88,7 @@ impl Store {
                     number,
                     value,
                 };
-                match self.entries.insert(at, Entry::new(item)) {
+                match self.entries.insert(at, HashedItem::new(item)) {
                     Ok(()) => {}
                     Err(_) => unreachable!(),
                 }

@@ -7,5 +7,5 @@ abbrev pub items : {T : Type 0} → GrowingList T → List T
 items list = list.items.items
 
 -- for how many more items there is room
-abbrev pub spare : {T : Type 0} → GrowingList T → ℕ
-spare list = vec_capacity list.items - vec_len list.items
+abbrev pub room : {T : Type 0} → GrowingList T → ℕ
+room list = vec_capacity list.items - vec_len list.items

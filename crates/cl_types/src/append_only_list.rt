@@ -29,7 +29,7 @@ impl<T> AppendOnlyList<T> {
         ensures entries { entries self.new ≡ entries self.old }
         ensures ok { OnOk result (count ≤ room self.new) }
         ensures roomy { count ≤ room self.old → IsOk result }
-        ensures kept { room self.old ≤ room self.new }
+        ensures keeps_room { room self.old ≤ room self.new }
     {
         self.list.reserve(count)
     }
@@ -41,7 +41,7 @@ impl<T> AppendOnlyList<T> {
         ensures ok { OnOk result (entries self.new ≡ entries self.old ++ entry ∷ []) }
         ensures err { OnErr result (entries self.new ≡ entries self.old) }
         ensures roomy { 1 ≤ room self.old → IsOk result }
-        ensures kept { room self.old ≤ room self.new + 1 }
+        ensures keeps_room { room self.old ≤ room self.new + 1 }
     {
         self.list.push(entry)
     }

@@ -1,7 +1,7 @@
 //! The one list that grows, on which every named list of the server stands.
 ghost use Rattle.std.specs.Prelude.{◌≡◌, ◌+◌, ◌≤◌, ◌↔◌, [], ◌∷◌, ◌++◌, length, IsTrue, IsOk, OnOk, OnErr, IfOk, IfNone, IfSome, slice_get};
 ghost use Rattle.std.specs.Option.{option_copied, option_to_list};
-ghost use Rattle.cl_types.specs.GrowingList.{items, spare};
+ghost use Rattle.cl_types.specs.GrowingList.{items, room};
 
 use crate::NoMemory;
 use std::alloc::Global;
@@ -11,7 +11,7 @@ pub type Text = GrowingList<u8>;
 
 /// A list that grows and shrinks at its end.
 ///
-/// Contracts see its items, first to last, and `spare`: for how many more items there is room.
+/// Contracts see its items, first to last, and `room`: for how many more items there is room.
 #[derive(Debug, Drop)]
 pub struct GrowingList<T> {
     items: Vec<T>,
@@ -30,22 +30,22 @@ impl<T> GrowingList<T> {
     /// Makes room for `count` more items. What is in the list stays, whatever the answer.
     pub fn reserve(&mut self, count: usize) -> Result<(), NoMemory>
         ensures items { items self.new ≡ items self.old }
-        ensures ok { OnOk result (count ≤ spare self.new) }
-        ensures roomy { count ≤ spare self.old → IsOk result }
-        ensures kept { spare self.old ≤ spare self.new }
+        ensures ok { OnOk result (count ≤ room self.new) }
+        ensures roomy { count ≤ room self.old → IsOk result }
+        ensures keeps_room { room self.old ≤ room self.new }
     {
         self.items.reserve(count)?;
         Ok(())
     }
 
-    /// Adds an item at the end. With room to spare it takes no memory; a refused item is dropped.
+    /// Adds an item at the end. With room it takes no memory; a refused item is dropped.
     pub fn push(&mut self, item: T) -> Result<(), NoMemory>
     where
         T: Drop,
         ensures ok { OnOk result (items self.new ≡ items self.old ++ item ∷ []) }
         ensures err { OnErr result (items self.new ≡ items self.old) }
-        ensures roomy { 1 ≤ spare self.old → IsOk result }
-        ensures kept { spare self.old ≤ spare self.new + 1 }
+        ensures roomy { 1 ≤ room self.old → IsOk result }
+        ensures keeps_room { room self.old ≤ room self.new + 1 }
     {
         self.items.push(item)?;
         Ok(())
@@ -53,9 +53,9 @@ impl<T> GrowingList<T> {
 
     /// Adds an item at the end, where there is room for it. It takes no memory.
     pub fn push_reserved(&mut self, item: T)
-        requires { 1 ≤ spare self.old }
+        requires { 1 ≤ room self.old }
         ensures items { items self.new ≡ items self.old ++ item ∷ [] }
-        ensures spare { spare self.new + 1 ≡ spare self.old }
+        ensures room { room self.new + 1 ≡ room self.old }
     {
         self.items.push_reserved(item);
     }
@@ -64,8 +64,8 @@ impl<T> GrowingList<T> {
     pub fn pop(&mut self) -> Option<T>
         ensures items { items self.old ≡ items self.new ++ option_to_list result }
         ensures empty { IfNone result (items self.old ≡ []) }
-        ensures spare { IfSome result (λ _. spare self.new ≡ spare self.old + 1) }
-        ensures same { IfNone result (spare self.new ≡ spare self.old) }
+        ensures room { IfSome result (λ _. room self.new ≡ room self.old + 1) }
+        ensures same { IfNone result (room self.new ≡ room self.old) }
     {
         self.items.pop()
     }

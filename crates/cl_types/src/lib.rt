@@ -6,6 +6,7 @@ mod append_only_list;
 mod apply;
 mod decimal;
 mod growing_list;
+mod limits;
 mod names;
 mod no_memory;
 mod operations;
@@ -21,6 +22,7 @@ pub use decimal::{
     natural_and_text_law, natural_of, number_and_text_law, number_of, number_of_text,
 };
 pub use growing_list::{GrowingList, Text};
+pub use limits::{OPERATIONS_MAX, SESSIONS_MAX};
 pub use names::{KEY_MAX, Key, TABLE_NAME_MAX, TableName};
 pub use no_memory::NoMemory;
 pub use operations::{Command, Mode, Op, TxnId};

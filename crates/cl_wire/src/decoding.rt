@@ -1,6 +1,6 @@
 //! From bytes to packets.
 ghost use Rattle.std.specs.Prelude.{◌≡◌, Ok, IfOk};
-ghost use Rattle.cl_fields.specs.Reading.{Gives, Reads};
+ghost use Rattle.cl_fields.specs.Reading.{Gives, ReadsField};
 ghost use Rattle.cl_wire.specs.Message.{Message, message_of};
 ghost use Rattle.cl_wire.specs.Laws.{Spells};
 ghost use Rattle.cl_wire.specs.PacketReading as reading;
@@ -36,7 +36,7 @@ fn is_seq(kind: Kind, seq: u64) -> bool
 
 #[tactic(auto, unfolding(crate::specs::PacketReading::read_kind))]
 fn next_kind(reader: &mut Reader<'_>) -> Result<Kind, Undecoded>
-    ensures { Reads result reader.new (read_kind reader.old) }
+    ensures { ReadsField result reader.new (read_kind reader.old) }
 {
     match Kind::of_byte(reader.byte()?) {
         Some(kind) => Ok(kind),
@@ -47,7 +47,7 @@ fn next_kind(reader: &mut Reader<'_>) -> Result<Kind, Undecoded>
 // The number of a message of this kind.
 #[tactic(auto, unfolding(crate::specs::PacketReading::read_seq))]
 fn next_seq(reader: &mut Reader<'_>, kind: Kind) -> Result<u64, Undecoded>
-    ensures { Reads result reader.new (read_seq kind reader.old) }
+    ensures { ReadsField result reader.new (read_seq kind reader.old) }
 {
     let seq = reader.u64()?;
     if is_seq(kind, seq) {
@@ -59,7 +59,7 @@ fn next_seq(reader: &mut Reader<'_>, kind: Kind) -> Result<u64, Undecoded>
 
 #[tactic(auto, unfolding(crate::specs::PacketReading::read_header))]
 fn next_header(reader: &mut Reader<'_>) -> Result<Header, Undecoded>
-    ensures { Reads result reader.new (read_header reader.old) }
+    ensures { ReadsField result reader.new (read_header reader.old) }
 {
     reader.between(VERSION, VERSION)?;
     let kind = next_kind(reader)?;

@@ -9,21 +9,21 @@ use Rattle.cl_types.specs.declared.answers.Outcome.{Outcome}
 use Rattle.cl_lines.specs.declared.line.LineFault.{LineFault}
 use Rattle.cl_lines.specs.declared.out.Out.TheVariants.{Answer, BadLine}
 use Rattle.cl_lines.specs.Line.{client_of, fault_of}
-use Rattle.cl_serial.specs.Transcript.{Entry, fed, written, questions, answers, command_in}
+use Rattle.cl_serial.specs.Transcript.{TranscriptEntry, fed, written, questions, answers, command_in}
 use Rattle.cl_serial.specs.Exchanges.{Exchange, exchanges, outcome_of}
-use Rattle.cl_serial.specs.Transactions.{Session, session_of, session_after, session_step, commands_in, numbered}
+use Rattle.cl_serial.specs.Transactions.{Session, session_state, session_after, session_step, commands_in, numbered}
 use Rattle.cl_serial.specs.Serial.{StandsAt, IsIn, IsAnswered, AnswersFollow, AnswersFitTurns, FitsTurn, RefusalsTrue, EveryLineAnswered}
 use Rattle.cl_serial.proofs.Places.{StandsAt-push, StandsAt-push_last, StandsAt-within, StandsAt-append_left}
 use Rattle.cl_serial.proofs.Growth.{KeepsCommands-step, all_of}
 use Rattle.clustra.proofs.Turns.{exchange_at}
-use Rattle.clustra.proofs.Pairs.{with_pair, questions-with_pair, answers-with_pair, command_in-other, outcome_in-other, exchanges-answered, session_of-paired, session_after-push}
+use Rattle.clustra.proofs.Pairs.{with_pair, questions-with_pair, answers-with_pair, command_in-other, outcome_in-other, exchanges-answered, session_state-paired, session_after-push}
 use Rattle.std.proofs.lemmas.List.{append-nil, length-append}
 use Rattle.cl_serial.proofs.SameSession.{commands-same, follow-same, fit-same, answered-same}
 use Rattle.clustra.proofs.Standing.{Standing, before, the_line, the_answer, standing, fault_in, refusal-before, refusal-after}
 
-module _ (transcript : List Entry) (number : ℕ) (text : List ℕ) (command : Command) (outcome : Outcome) (reads : client_of text ≡ Some (1, command)) where
+module _ (transcript : List TranscriptEntry) (number : ℕ) (text : List ℕ) (command : Command) (outcome : Outcome) (reads : client_of text ≡ Some (1, command)) where
   -- the longer transcript
-  abbrev pub longer : List Entry
+  abbrev pub longer : List TranscriptEntry
   longer = with_pair transcript number text (Answer 1 outcome)
 
   pub questions-first : questions 1 longer ≡ questions 1 transcript ++ (command, length transcript) ∷ []
@@ -55,59 +55,59 @@ module _ (transcript : List Entry) (number : ℕ) (text : List ℕ) (command : C
       let a = ap length answers-first ∙ length-append (answers 1 transcript) ((outcome, length transcript + 1) ∷ []) in
       omega (arith, q, a, paired)
 
-  pub session_of-first : length (questions 1 transcript) ≡ length (answers 1 transcript) → session_of 1 longer ≡ session_step (session_of 1 transcript) one
-  session_of-first paired =
-      session_of-paired 1 longer (paired-longer paired)
+  pub session_state-first : length (questions 1 transcript) ≡ length (answers 1 transcript) → session_state 1 longer ≡ session_step (session_state 1 transcript) one
+  session_state-first paired =
+      session_state-paired 1 longer (paired-longer paired)
       ∙ ap session_after (exchanges-answered transcript number text command outcome reads paired)
       ∙ session_after-push (exchanges 1 transcript) one
-      ∙ ap (λ session. session_step session one) (sym (session_of-paired 1 transcript paired))
+      ∙ ap (λ session. session_step session one) (sym (session_state-paired 1 transcript paired))
 
   -- a transaction keeps its commands
   kept_here : length (questions 1 transcript) ≡ length (answers 1 transcript) → (n : ℕ) (exchange : Exchange) →
-      IsIn (commands_in (numbered (all_of (session_of 1 transcript)) n)) exchange → IsIn (commands_in (numbered (all_of (session_of 1 longer)) n)) exchange
+      IsIn (commands_in (numbered (all_of (session_state 1 transcript)) n)) exchange → IsIn (commands_in (numbered (all_of (session_state 1 longer)) n)) exchange
   kept_here paired n exchange h =
       let P : Session → Type 0 = λ session. IsIn (commands_in (numbered (all_of session) n)) exchange in
-      subst P (sym (session_of-first paired)) (KeepsCommands-step (session_of 1 transcript) one n exchange h)
+      subst P (sym (session_state-first paired)) (KeepsCommands-step (session_state 1 transcript) one n exchange h)
 
   kept_anywhere : length (questions 1 transcript) ≡ length (answers 1 transcript) → (session : ℕ) → (session ≡ 1) ⊎ (session ≡ 1 → ⊥) → (n : ℕ) (exchange : Exchange) →
-      IsIn (commands_in (numbered (all_of (session_of session transcript)) n)) exchange → IsIn (commands_in (numbered (all_of (session_of session longer)) n)) exchange
+      IsIn (commands_in (numbered (all_of (session_state session transcript)) n)) exchange → IsIn (commands_in (numbered (all_of (session_state session longer)) n)) exchange
   kept_anywhere paired session (inl is_first) n exchange h =
-      let P : ℕ → Type 0 = λ s. IsIn (commands_in (numbered (all_of (session_of s transcript)) n)) exchange → IsIn (commands_in (numbered (all_of (session_of s longer)) n)) exchange in
+      let P : ℕ → Type 0 = λ s. IsIn (commands_in (numbered (all_of (session_state s transcript)) n)) exchange → IsIn (commands_in (numbered (all_of (session_state s longer)) n)) exchange in
       subst P (sym is_first) (kept_here paired n exchange) h
   kept_anywhere paired session (inr other) n exchange h = commands-same longer transcript session (questions-others session other) (answers-others session other) n exchange h
 
-  pub IsAnswered-longer : length (questions 1 transcript) ≡ length (answers 1 transcript) → (name : TxnId) (given : Outcome) (place : ℕ) → IsAnswered transcript name given place → IsAnswered longer name given place
-  IsAnswered-longer paired name given place h =
+  pub IsAnswered-longer : length (questions 1 transcript) ≡ length (answers 1 transcript) → (name : TxnId) (given : Outcome) (position : ℕ) → IsAnswered transcript name given position → IsAnswered longer name given position
+  IsAnswered-longer paired name given position h =
       (h.0, kept_anywhere paired name.session (cases_eq name.session 1) name.number h.0 h.1, h.2)
 
   -- each answer of a session still follows its line
-  follow_first : AnswersFollow transcript → length (questions 1 transcript) ≡ length (answers 1 transcript) → (k : ℕ) (given : Outcome) (place : ℕ) →
-      StandsAt (answers 1 transcript) k (given, place) ⊎ ((k ≡ length (answers 1 transcript)) × (◌≡◌ {A = Outcome × ℕ} (given, place) (outcome, length transcript + 1))) →
-      (asked : Command) × (line : ℕ) × StandsAt (questions 1 transcript ++ (command, length transcript) ∷ []) k (asked, line) × (line < place)
-  follow_first follow paired k given place (inl old) =
-      let found = follow 1 k given place old in
+  follow_first : AnswersFollow transcript → length (questions 1 transcript) ≡ length (answers 1 transcript) → (k : ℕ) (given : Outcome) (position : ℕ) →
+      StandsAt (answers 1 transcript) k (given, position) ⊎ ((k ≡ length (answers 1 transcript)) × (◌≡◌ {A = Outcome × ℕ} (given, position) (outcome, length transcript + 1))) →
+      (asked : Command) × (line : ℕ) × StandsAt (questions 1 transcript ++ (command, length transcript) ∷ []) k (asked, line) × (line < position)
+  follow_first follow paired k given position (inl old) =
+      let found = follow 1 k given position old in
       (found.0, found.1, StandsAt-append_left (questions 1 transcript) ((command, length transcript) ∷ []) k (found.0, found.1) found.2, found.3)
-  follow_first follow paired k given place (inr new) =
+  follow_first follow paired k given position (inr new) =
       let P : ℕ → Type 0 = λ n. StandsAt (questions 1 transcript ++ (command, length transcript) ∷ []) n (command, length transcript) in
-      let at_end : place ≡ length transcript + 1 = ap (λ (p : Outcome × ℕ). p.1) new.1 in
+      let at_end : position ≡ length transcript + 1 = ap (λ (p : Outcome × ℕ). p.1) new.1 in
       (command, length transcript, subst P (paired ∙ sym new.0) (StandsAt-push_last (questions 1 transcript) (command, length transcript)), omega (arith, at_end))
 
-  follow_any : AnswersFollow transcript → length (questions 1 transcript) ≡ length (answers 1 transcript) → (session : ℕ) → (session ≡ 1) ⊎ (session ≡ 1 → ⊥) → (k : ℕ) (given : Outcome) (place : ℕ) →
-      StandsAt (answers session longer) k (given, place) → (asked : Command) × (line : ℕ) × StandsAt (questions session longer) k (asked, line) × (line < place)
-  follow_any follow paired session (inl is_first) k given place h =
-      let P : List (Outcome × ℕ) → Type 0 = λ list. StandsAt list k (given, place) in
-      let Q : List (Command × ℕ) → Type 0 = λ list. (asked : Command) × (line : ℕ) × StandsAt list k (asked, line) × (line < place) in
-      let R : ℕ → Type 0 = λ s. StandsAt (answers s longer) k (given, place) → Q (questions s longer) in
+  follow_any : AnswersFollow transcript → length (questions 1 transcript) ≡ length (answers 1 transcript) → (session : ℕ) → (session ≡ 1) ⊎ (session ≡ 1 → ⊥) → (k : ℕ) (given : Outcome) (position : ℕ) →
+      StandsAt (answers session longer) k (given, position) → (asked : Command) × (line : ℕ) × StandsAt (questions session longer) k (asked, line) × (line < position)
+  follow_any follow paired session (inl is_first) k given position h =
+      let P : List (Outcome × ℕ) → Type 0 = λ list. StandsAt list k (given, position) in
+      let Q : List (Command × ℕ) → Type 0 = λ list. (asked : Command) × (line : ℕ) × StandsAt list k (asked, line) × (line < position) in
+      let R : ℕ → Type 0 = λ s. StandsAt (answers s longer) k (given, position) → Q (questions s longer) in
       subst R (sym is_first) (λ at.
-      subst Q (sym questions-first) (follow_first follow paired k given place
-      (StandsAt-push (answers 1 transcript) (outcome, length transcript + 1) k (given, place) (subst P answers-first at)))) h
-  follow_any follow paired session (inr other) k given place h = follow-same longer transcript session (questions-others session other) (answers-others session other) follow k given place h
+      subst Q (sym questions-first) (follow_first follow paired k given position
+      (StandsAt-push (answers 1 transcript) (outcome, length transcript + 1) k (given, position) (subst P answers-first at)))) h
+  follow_any follow paired session (inr other) k given position h = follow-same longer transcript session (questions-others session other) (answers-others session other) follow k given position h
 
   pub AnswersFollow-longer : AnswersFollow transcript → length (questions 1 transcript) ≡ length (answers 1 transcript) → AnswersFollow longer
-  AnswersFollow-longer follow paired session k given place h = follow_any follow paired session (cases_eq session 1) k given place h
+  AnswersFollow-longer follow paired session k given position h = follow_any follow paired session (cases_eq session 1) k given position h
 
   -- each outcome fits its turn
-  fit_first : AnswersFitTurns transcript → length (questions 1 transcript) ≡ length (answers 1 transcript) → FitsTurn (session_of 1 transcript) command outcome →
+  fit_first : AnswersFitTurns transcript → length (questions 1 transcript) ≡ length (answers 1 transcript) → FitsTurn (session_state 1 transcript) command outcome →
       (k : ℕ) (exchange : Exchange) (given : Outcome) → StandsAt (exchanges 1 transcript) k exchange ⊎ ((k ≡ length (exchanges 1 transcript)) × (exchange ≡ one)) → outcome_of exchange ≡ Some given →
       FitsTurn (session_after (take k (exchanges 1 transcript ++ one ∷ []))) exchange.command given
   fit_first fit paired fits k exchange given (inl old) is =
@@ -117,15 +117,15 @@ module _ (transcript : List Entry) (number : ℕ) (text : List ℕ) (command : C
   fit_first fit paired fits k exchange given (inr new) is =
       let P : List Exchange → Type 0 = λ list. FitsTurn (session_after list) exchange.command given in
       let Q : Session → Type 0 = λ session. FitsTurn session exchange.command given in
-      let R : Command → Type 0 = λ c. FitsTurn (session_of 1 transcript) c given in
-      let S : Outcome → Type 0 = λ o. FitsTurn (session_of 1 transcript) command o in
+      let R : Command → Type 0 = λ c. FitsTurn (session_state 1 transcript) c given in
+      let S : Outcome → Type 0 = λ o. FitsTurn (session_state 1 transcript) command o in
       let same : Some given ≡ Some outcome = sym is ∙ ap outcome_of new.1 in
       let same_outcome : given ≡ outcome = ap (λ (o : Option Outcome). unwrap_or o given) same in
       let same_command : exchange.command ≡ command = ap (λ (e : Exchange). e.command) new.1 in
       subst P (sym (take_at (exchanges 1 transcript) (one ∷ []) k (sym new.0)))
-      (subst Q (session_of-paired 1 transcript paired) (subst R (sym same_command) (subst S (sym same_outcome) fits)))
+      (subst Q (session_state-paired 1 transcript paired) (subst R (sym same_command) (subst S (sym same_outcome) fits)))
 
-  fit_any : AnswersFitTurns transcript → length (questions 1 transcript) ≡ length (answers 1 transcript) → FitsTurn (session_of 1 transcript) command outcome →
+  fit_any : AnswersFitTurns transcript → length (questions 1 transcript) ≡ length (answers 1 transcript) → FitsTurn (session_state 1 transcript) command outcome →
       (session : ℕ) → (session ≡ 1) ⊎ (session ≡ 1 → ⊥) → (k : ℕ) (exchange : Exchange) (given : Outcome) → StandsAt (exchanges session longer) k exchange → outcome_of exchange ≡ Some given →
       FitsTurn (session_after (take k (exchanges session longer))) exchange.command given
   fit_any fit paired fits session (inl is_first) k exchange given h is =
@@ -135,18 +135,18 @@ module _ (transcript : List Entry) (number : ℕ) (text : List ℕ) (command : C
       (λ at. fit_first fit paired fits k exchange given (StandsAt-push (exchanges 1 transcript) one k exchange at) is)) h
   fit_any fit paired fits session (inr other) k exchange given h is = fit-same longer transcript session (questions-others session other) (answers-others session other) fit k exchange given h is
 
-  pub AnswersFitTurns-longer : AnswersFitTurns transcript → length (questions 1 transcript) ≡ length (answers 1 transcript) → FitsTurn (session_of 1 transcript) command outcome → AnswersFitTurns longer
+  pub AnswersFitTurns-longer : AnswersFitTurns transcript → length (questions 1 transcript) ≡ length (answers 1 transcript) → FitsTurn (session_state 1 transcript) command outcome → AnswersFitTurns longer
   AnswersFitTurns-longer fit paired fits session k exchange given h is = fit_any fit paired fits session (cases_eq session 1) k exchange given h is
 
   -- no line more is refused
-  refused_before : RefusalsTrue transcript → (place line : ℕ) (fault : LineFault) → Standing transcript (fed number text) (written (Answer 1 outcome)) (written (BadLine line fault)) place →
-      (earlier : ℕ) × (refused : List ℕ) × (earlier < place) × StandsAt longer earlier (fed line refused) × (fault_of refused ≡ Some fault)
-  refused_before true_before place line fault (before at) = refusal-before transcript number text (Answer 1 outcome) true_before place line fault at
-  refused_before true_before place line fault (the_line at is) = absurd (cc)
-  refused_before true_before place line fault (the_answer at is) = absurd (cc)
+  refused_before : RefusalsTrue transcript → (position line : ℕ) (fault : LineFault) → Standing transcript (fed number text) (written (Answer 1 outcome)) (written (BadLine line fault)) position →
+      (earlier : ℕ) × (refused : List ℕ) × (earlier < position) × StandsAt longer earlier (fed line refused) × (fault_of refused ≡ Some fault)
+  refused_before true_before position line fault (before at) = refusal-before transcript number text (Answer 1 outcome) true_before position line fault at
+  refused_before true_before position line fault (the_line at is) = absurd (cc)
+  refused_before true_before position line fault (the_answer at is) = absurd (cc)
 
   pub RefusalsTrue-longer : RefusalsTrue transcript → RefusalsTrue longer
-  RefusalsTrue-longer true_before place line fault h = refused_before true_before place line fault (standing transcript number text (Answer 1 outcome) place (written (BadLine line fault)) h)
+  RefusalsTrue-longer true_before position line fault h = refused_before true_before position line fault (standing transcript number text (Answer 1 outcome) position (written (BadLine line fault)) h)
 
   -- every line has its answer
   answered_first : EveryLineAnswered transcript → (k : ℕ) (exchange : Exchange) → StandsAt (exchanges 1 transcript) k exchange ⊎ ((k ≡ length (exchanges 1 transcript)) × (exchange ≡ one)) → IsSome (outcome_of exchange)
@@ -162,17 +162,17 @@ module _ (transcript : List Entry) (number : ℕ) (text : List ℕ) (command : C
       (subst P (exchanges-answered transcript number text command outcome reads paired) (subst R is_first h)))
   answered_any every paired session (inr other) k exchange h = answered-same longer transcript session (questions-others session other) (answers-others session other) every k exchange h
 
-  refused_after : EveryLineAnswered transcript → fault_of text ≡ None → (place line : ℕ) (refused : List ℕ) (fault : LineFault) →
-      Standing transcript (fed number text) (written (Answer 1 outcome)) (fed line refused) place → fault_of refused ≡ Some fault →
-      (after : ℕ) × (place < after) × StandsAt longer after (written (BadLine line fault))
-  refused_after every well place line refused fault (before at) is = refusal-after transcript number text (Answer 1 outcome) every place line refused fault at is
-  refused_after every well place line refused fault (the_line at same) is =
-      let P : Entry → Type 0 = λ entry. fault_in entry ≡ Some fault in
+  refused_after : EveryLineAnswered transcript → fault_of text ≡ None → (position line : ℕ) (refused : List ℕ) (fault : LineFault) →
+      Standing transcript (fed number text) (written (Answer 1 outcome)) (fed line refused) position → fault_of refused ≡ Some fault →
+      (after : ℕ) × (position < after) × StandsAt longer after (written (BadLine line fault))
+  refused_after every well position line refused fault (before at) is = refusal-after transcript number text (Answer 1 outcome) every position line refused fault at is
+  refused_after every well position line refused fault (the_line at same) is =
+      let P : TranscriptEntry → Type 0 = λ entry. fault_in entry ≡ Some fault in
       let both : None ≡ Some fault = sym well ∙ subst P same is in absurd (cc)
-  refused_after every well place line refused fault (the_answer at same) is = absurd (cc)
+  refused_after every well position line refused fault (the_answer at same) is = absurd (cc)
 
   pub EveryLineAnswered-longer : EveryLineAnswered transcript → fault_of text ≡ None → length (questions 1 transcript) ≡ length (answers 1 transcript) → EveryLineAnswered longer
   EveryLineAnswered-longer every well paired = record {
     answered = λ session k exchange h. answered_any every paired session (cases_eq session 1) k exchange h;
-    refused = λ place line refused fault h is. refused_after every well place line refused fault (standing transcript number text (Answer 1 outcome) place (fed line refused) h) is;
+    refused = λ position line refused fault h is. refused_after every well position line refused fault (standing transcript number text (Answer 1 outcome) position (fed line refused) h) is;
   }

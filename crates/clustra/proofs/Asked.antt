@@ -5,7 +5,7 @@ use Rattle.cl_types.specs.declared.operations.Command.TheVariants.{Begin, Work, 
 use Rattle.cl_types.specs.declared.operations.TxnId.{TxnId}
 use Rattle.cl_types.specs.declared.answers.Outcome.{Outcome}
 use Rattle.cl_lines.specs.declared.out.Out.TheVariants.{Answer}
-use Rattle.cl_serial.specs.Transcript.{Entry, fed, written}
+use Rattle.cl_serial.specs.Transcript.{TranscriptEntry, fed, written}
 use Rattle.cl_types.specs.Places.{Place}
 use Rattle.cl_serial.specs.PlainMap.{Values}
 use Rattle.cl_lines.specs.declared.line.Line.TheVariants.{Client}
@@ -45,7 +45,7 @@ turn_begun-most None Abort begun = omega arith
 turn_begun-most (Some count) command begun = omega arith
 
 -- a line that was read, and its turn
-pub Served-read : (transcript old : List Entry) (number : ℕ) (text : List ℕ) (session : ℕ) (command : Command) (outcome : Outcome) (history before_history : List TxnId) (values after : Values)
+pub Served-read : (transcript old : List TranscriptEntry) (number : ℕ) (text : List ℕ) (session : ℕ) (command : Command) (outcome : Outcome) (history before_history : List TxnId) (values after : Values)
     (begun before_begun : ℕ) (count before_count : Option ℕ) → transcript ≡ old → Served old before_history values before_begun before_count → line_of text ≡ Ok (Client session command) →
     outcome ≡ turn_outcome before_count command values → ((place : Place) → after place ≡ turn_values before_count command values place) →
     history ≡ turn_history before_count command before_begun before_history → begun ≡ turn_begun before_count command before_begun → count ≡ turn_count before_count command →
@@ -53,7 +53,7 @@ pub Served-read : (transcript old : List Entry) (number : ℕ) (text : List ℕ)
 Served-read transcript old number text session command outcome history before_history values after begun before_begun count before_count same h line outcome_is changed history_is begun_is count_is =
     let first : session ≡ 1 = session-read text session command line in
     let one_line : line_of text ≡ Ok (Client 1 command) = line ∙ ap (λ s. Ok (Client s command)) first in
-    let P : List Entry → Type 0 = λ t. Served ((t ++ fed number text ∷ []) ++ written (Answer session outcome) ∷ []) history after begun count in
+    let P : List TranscriptEntry → Type 0 = λ t. Served ((t ++ fed number text ∷ []) ++ written (Answer session outcome) ∷ []) history after begun count in
     let Q : ℕ → Type 0 = λ s. Served ((old ++ fed number text ∷ []) ++ written (Answer s outcome) ∷ []) history after begun count in
     let R : List TxnId → Type 0 = λ list. Served (with_pair old number text (Answer 1 outcome)) list after begun count in
     let S : ℕ → Type 0 = λ n. Served (with_pair old number text (Answer 1 outcome)) (turn_history before_count command before_begun before_history) after n count in

@@ -11,26 +11,26 @@ use Rattle.cl_types.specs.declared.operations.TxnId.{TxnId}
 use Rattle.cl_types.specs.declared.answers.AbortCause.{AbortCause}
 use Rattle.cl_types.specs.declared.answers.Outcome.{Outcome}
 use Rattle.cl_types.specs.declared.answers.Outcome.TheVariants.{Committed, Aborted}
-use Rattle.cl_serial.specs.Transcript.{Entry, questions, answers, refusals}
+use Rattle.cl_serial.specs.Transcript.{TranscriptEntry, questions, answers, refusals}
 use Rattle.cl_serial.specs.Exchanges.{Exchange, pair_up, in_turn}
-use Rattle.cl_serial.specs.Transactions.{Transaction, Session, session_of, session_after, commands_of, commands_in, numbered, transactions, is_end}
+use Rattle.cl_serial.specs.Transactions.{Transaction, Session, session_state, session_after, commands_of, commands_in, numbered, transactions, is_end}
 use Rattle.cl_serial.specs.PlainMap.{Values, Operation, operations, no_values, after_operations, RepliesAgree}
-use Rattle.cl_serial.specs.Serial.{StandsAt, IsIn, Asks, operations_of, HistoryFits, RealTimeOrder, Serializable}
+use Rattle.cl_serial.specs.Serial.{values_after, StandsAt, IsIn, Asks, operations_of, HistoryFits, RealTimeOrder, Serializable}
 use Rattle.cl_serial.proofs.Places.{StandsAt-push, StandsAt-push_last, StandsAt-within, StandsAt-append_left, IsIn-push, IsIn-push_last, IsIn-nil}
 use Rattle.cl_serial.proofs.Replayed.{RepliesAgree-front, RepliesAgree-back}
-use Rattle.clustra.specs.Run.{values_after, OpenRepliesAgree}
+use Rattle.clustra.specs.Run.{OpenRepliesAgree}
 use Rattle.clustra.specs.Served.{names, GoesOn, EndsCommitted, IsOpen, operations_in, done_by, Together, Served}
 
 length-names : (n : ℕ) → length (names n) ≡ n
 length-names zero = refl
 length-names (suc n) = let e = length-append (names n) (record { session = 1; number = suc n } ∷ []) in omega (arith, e, length-names n)
 
--- the name at each place of the first names
+-- the name at each position of the first names
 names_at : (n i : ℕ) (x : TxnId) → StandsAt (names n) i x → (x ≡ record { session = 1; number = suc i }) × (i < n)
 names_at zero i x h = absurd (let none : None ≡ Some x = h in cc)
 names_at (suc n) i x h = elim (StandsAt-push (names n) (record { session = 1; number = suc n }) i x h) [
   | inl old ↦ (let found = names_at n i x old in (found.0, omega (arith, found.1)))
-  | inr new ↦ (let place : i ≡ n = new.0 ∙ length-names n in (new.1 ∙ ap (λ k. record { session = 1; number = suc k }) (sym place), omega (arith, place)))
+  | inr new ↦ (let position : i ≡ n = new.0 ∙ length-names n in (new.1 ∙ ap (λ k. record { session = 1; number = suc k }) (sym position), omega (arith, position)))
 ]
 
 names_here : (n i : ℕ) → i < n → StandsAt (names n) i (record { session = 1; number = suc i })
@@ -56,14 +56,14 @@ commands_there : (found : Option Transaction) (exchange : Exchange) → IsIn (co
 commands_there None exchange h = absurd (IsIn-nil exchange h)
 commands_there (Some transaction) exchange h = (transaction, refl, h)
 
--- a place of the joined list is in the first part, or it is the last transaction
+-- a position of the joined list is in the first part, or it is the last transaction
 place_in : (ended : List Transaction) (current : Option Transaction) (k : ℕ) (x : Transaction) → StandsAt (ended ++ option_to_list current) k x → StandsAt ended k x ⊎ ((k ≡ length ended) × (current ≡ Some x))
 place_in ended None k x h = let P : List Transaction → Type 0 = λ list. StandsAt list k x in inl (subst P (append-nil ended) h)
 place_in ended (Some current) k x h = elim (StandsAt-push ended current k x h) [ inl old ↦ inl old | inr new ↦ inr (new.0, ap Some (sym new.1)) ]
 
 -- the command by which a transaction ended
 abbrev last_of : {transaction : Transaction} → EndsCommitted transaction → Exchange
-last_of ends = record { command = Commit; line = ends.line; answer = Some (Committed, ends.place) }
+last_of ends = record { command = Commit; line = ends.line; answer = Some (Committed, ends.position) }
 
 -- a command of an ended transaction goes on, or it is the last
 command_of_ended : (transaction : Transaction) (ends : EndsCommitted transaction) (exchange : Exchange) → IsIn transaction.commands exchange → GoesOn exchange ⊎ (exchange ≡ last_of ends)
@@ -73,17 +73,17 @@ command_of_ended transaction ends exchange h =
     [ inl old ↦ inl (all_in GoesOn ends.front old.0 exchange ends.goes_on old.1) | inr new ↦ inr new ]
 
 -- an exchange with an end's outcome does not go on
-committed_ends : (exchange : Exchange) (place : ℕ) → exchange.answer ≡ Some (Committed, place) → GoesOn exchange → ⊥
-committed_ends exchange place is goes =
+committed_ends : (exchange : Exchange) (position : ℕ) → exchange.answer ≡ Some (Committed, position) → GoesOn exchange → ⊥
+committed_ends exchange position is goes =
     let P : Option (Outcome × ℕ) → Bool = λ answer. is_end (elim answer [ None ↦ None | Some given ↦ Some given.0 ]) in
     let both : true ≡ false = sym (ap P is) ∙ goes in cc
 
-aborted_ends : (exchange : Exchange) (cause : AbortCause) (place : ℕ) → exchange.answer ≡ Some (Aborted cause, place) → GoesOn exchange → ⊥
-aborted_ends exchange cause place is goes =
+aborted_ends : (exchange : Exchange) (cause : AbortCause) (position : ℕ) → exchange.answer ≡ Some (Aborted cause, position) → GoesOn exchange → ⊥
+aborted_ends exchange cause position is goes =
     let P : Option (Outcome × ℕ) → Bool = λ answer. is_end (elim answer [ None ↦ None | Some given ↦ Some given.0 ]) in
     let both : true ≡ false = sym (ap P is) ∙ goes in cc
 
--- there is an item at each place within a list
+-- there is an item at each position within a list
 item_at : {X : Type 0} (xs : List X) (i : ℕ) → i < length xs → (x : X) × StandsAt xs i x
 item_at [] i h = absurd (omega arith)
 item_at (x ∷ xs) zero h = (x, refl)
@@ -111,7 +111,7 @@ operations_of_names ended more (suc n) h =
     ∙ ap done_by (sym (take-item ended n found.0 found.1))
 
 -- a session that no line asks has no transactions
-no_commands : (session : ℕ) (transcript : List Entry) (n : ℕ) (exchange : Exchange) → questions session transcript ≡ [] → IsIn (commands_in (numbered (transactions session transcript) n)) exchange → ⊥
+no_commands : (session : ℕ) (transcript : List TranscriptEntry) (n : ℕ) (exchange : Exchange) → questions session transcript ≡ [] → IsIn (commands_in (numbered (transactions session transcript) n)) exchange → ⊥
 unfolding pair_up in_turn
 no_commands session transcript n exchange none h =
     let P : List (_ × ℕ) → Type 0 = λ asked. let state = session_after (in_turn (pair_up asked (answers session transcript))) in
@@ -123,7 +123,7 @@ no_commands session transcript n exchange none h =
     nothing (suc k) h = IsIn-nil exchange h
 
 -- a session that no line asks is in no transaction
-no_open : (session : ℕ) (transcript : List Entry) (values : Values) → questions session transcript ≡ [] → RepliesAgree values (operations (commands_in (session_of session transcript).current))
+no_open : (session : ℕ) (transcript : List TranscriptEntry) (values : Values) → questions session transcript ≡ [] → RepliesAgree values (operations (commands_in (session_state session transcript).current))
 unfolding pair_up in_turn RepliesAgree
 no_open session transcript values none =
     let P : List (_ × ℕ) → Type 0 = λ asked. RepliesAgree values (operations (commands_in (session_after (in_turn (pair_up asked (answers session transcript)))).current)) in
@@ -134,9 +134,9 @@ done_by-open : (current : Option Transaction) → done_by (option_to_list curren
 done_by-open None = refl
 done_by-open (Some transaction) = append-nil (operations transaction.commands)
 
-module _ (transcript : List Entry) (history : List TxnId) (values : Values) (begun : ℕ) (count : Option ℕ) (h : Served transcript history values begun count) where
+module _ (transcript : List TranscriptEntry) (history : List TxnId) (values : Values) (begun : ℕ) (count : Option ℕ) (h : Served transcript history values begun count) where
   abbrev state : Session
-  state = session_of 1 transcript
+  state = session_state 1 transcript
 
   abbrev all : List Transaction
   all = state.ended ++ option_to_list state.current
@@ -200,19 +200,19 @@ module _ (transcript : List Entry) (history : List TxnId) (values : Values) (beg
       let there : slice_get all is_in.0 ≡ Some found.0 = StandsAt-append_left state.ended (option_to_list state.current) is_in.0 found.0 found.1 in
       subst R (sym member.0) (last_of ends, subst Q (sym there) (subst P (sym ends.commands_are) (IsIn-push_last ends.front (last_of ends))), refl)
 
-  listed : (name : TxnId) (exchange : Exchange) (place : ℕ) → exchange.answer ≡ Some (Committed, place) → Whose name exchange → IsIn history name
-  listed name exchange place is (of_member k transaction same at is_in) =
+  listed : (name : TxnId) (exchange : Exchange) (position : ℕ) → exchange.answer ≡ Some (Committed, position) → Whose name exchange → IsIn history name
+  listed name exchange position is (of_member k transaction same at is_in) =
       subst (IsIn history) (sym same) (member_here k (StandsAt-within state.ended k transaction at))
-  listed name exchange place is (of_current transaction is_open is_in) = absurd (committed_ends exchange place is (current_goes_on transaction exchange is_open is_in))
+  listed name exchange position is (of_current transaction is_open is_in) = absurd (committed_ends exchange position is (current_goes_on transaction exchange is_open is_in))
 
-  -- COMMITTED stands at the place where the transaction ended
-  ended_there : (transaction : Transaction) (ends : EndsCommitted transaction) (exchange : Exchange) (place : ℕ) → exchange.answer ≡ Some (Committed, place) → IsIn transaction.commands exchange → place ≡ ends.place
-  ended_there transaction ends exchange place is is_in = by_command (command_of_ended transaction ends exchange is_in)
+  -- COMMITTED stands at the position where the transaction ended
+  ended_there : (transaction : Transaction) (ends : EndsCommitted transaction) (exchange : Exchange) (position : ℕ) → exchange.answer ≡ Some (Committed, position) → IsIn transaction.commands exchange → position ≡ ends.position
+  ended_there transaction ends exchange position is is_in = by_command (command_of_ended transaction ends exchange is_in)
     where
-      by_command : GoesOn exchange ⊎ (exchange ≡ last_of ends) → place ≡ ends.place
-      by_command (inl goes) = absurd (committed_ends exchange place is goes)
+      by_command : GoesOn exchange ⊎ (exchange ≡ last_of ends) → position ≡ ends.position
+      by_command (inl goes) = absurd (committed_ends exchange position is goes)
       by_command (inr last) =
-          let both : Some (Committed, place) ≡ Some (Committed, ends.place) = sym is ∙ ap (λ (e : Exchange). e.answer) last in
+          let both : Some (Committed, position) ≡ Some (Committed, ends.position) = sym is ∙ ap (λ (e : Exchange). e.answer) last in
           ap (λ (o : Option (Outcome × ℕ)). (unwrap_or o (Committed, 0)).1) both
 
   once : (name : TxnId) (e f : Exchange) (p q : ℕ) → e.answer ≡ Some (Committed, p) → f.answer ≡ Some (Committed, q) → Whose name e → Whose name f → p ≡ q
@@ -220,21 +220,21 @@ module _ (transcript : List Entry) (history : List TxnId) (values : Values) (beg
   once name e f p q is is' (of_member k transaction same at is_in) (of_current transaction' is_open is_in') = absurd (committed_ends f q is' (current_goes_on transaction' f is_open is_in'))
   once name e f p q is is' (of_member k transaction same at is_in) (of_member j transaction' same' at' is_in') =
       let numbers : suc k ≡ suc j = ap (λ (x : TxnId). x.number) (sym same ∙ same') in
-      let places : k ≡ j = omega arith in
+      let positions : k ≡ j = omega arith in
       let P : ℕ → Type 0 = λ n. StandsAt state.ended n transaction in
-      let both : Some transaction ≡ Some transaction' = sym (subst P places at) ∙ at' in
+      let both : Some transaction ≡ Some transaction' = sym (subst P positions at) ∙ at' in
       let one : transaction ≡ transaction' = ap (λ (o : Option Transaction). unwrap_or o transaction) both in
       let Q : Transaction → Type 0 = λ t. IsIn t.commands f in
       ended_there transaction (ends_at k transaction at) e p is is_in ∙ sym (ended_there transaction (ends_at k transaction at) f q is' (subst Q (sym one) is_in'))
 
-  no_abort : (name : TxnId) (exchange : Exchange) (cause : AbortCause) (place : ℕ) → exchange.answer ≡ Some (Aborted cause, place) → Whose name exchange → ⊥
-  no_abort name exchange cause place is (of_current transaction is_open is_in) = aborted_ends exchange cause place is (current_goes_on transaction exchange is_open is_in)
-  no_abort name exchange cause place is (of_member k transaction same at is_in) = by_command (command_of_ended transaction (ends_at k transaction at) exchange is_in)
+  no_abort : (name : TxnId) (exchange : Exchange) (cause : AbortCause) (position : ℕ) → exchange.answer ≡ Some (Aborted cause, position) → Whose name exchange → ⊥
+  no_abort name exchange cause position is (of_current transaction is_open is_in) = aborted_ends exchange cause position is (current_goes_on transaction exchange is_open is_in)
+  no_abort name exchange cause position is (of_member k transaction same at is_in) = by_command (command_of_ended transaction (ends_at k transaction at) exchange is_in)
     where
       by_command : GoesOn exchange ⊎ (exchange ≡ last_of (ends_at k transaction at)) → ⊥
-      by_command (inl goes) = aborted_ends exchange cause place is goes
+      by_command (inl goes) = aborted_ends exchange cause position is goes
       by_command (inr last) =
-          let both : Some (Aborted cause, place) ≡ Some (Committed, (ends_at k transaction at).place) = sym is ∙ ap (λ (e : Exchange). e.answer) last in
+          let both : Some (Aborted cause, position) ≡ Some (Committed, (ends_at k transaction at).position) = sym is ∙ ap (λ (e : Exchange). e.answer) last in
           let outcomes : Aborted cause ≡ Committed = ap (λ (o : Option (Outcome × ℕ)). (unwrap_or o (Committed, 0)).0) both in cc
 
   -- the members' operations are those of the ended transactions
@@ -272,22 +272,22 @@ module _ (transcript : List Entry) (history : List TxnId) (values : Values) (beg
   pub OpenRepliesAgree-served : OpenRepliesAgree transcript history
   OpenRepliesAgree-served session = by_session (cases_eq session 1)
     where
-      by_session : (session ≡ 1) ⊎ (session ≡ 1 → ⊥) → RepliesAgree (values_after transcript history) (operations (commands_in (session_of session transcript).current))
+      by_session : (session ≡ 1) ⊎ (session ≡ 1 → ⊥) → RepliesAgree (values_after transcript history) (operations (commands_in (session_state session transcript).current))
       by_session (inl first) =
-          let P : ℕ → Type 0 = λ s. RepliesAgree (values_after transcript history) (operations (commands_in (session_of s transcript).current)) in subst P (sym first) open_replies
+          let P : ℕ → Type 0 = λ s. RepliesAgree (values_after transcript history) (operations (commands_in (session_state s transcript).current)) in subst P (sym first) open_replies
       by_session (inr other) = no_open session transcript (values_after transcript history) (h.unasked session other)
 
   fits : HistoryFits transcript history
   fits = record {
     distinct = distinct;
     committing = committing;
-    committed_listed = λ name place answered. listed name answered.0 place answered.2 (whose name answered.0 answered.1);
+    committed_listed = λ name position answered. listed name answered.0 position answered.2 (whose name answered.0 answered.1);
     committed_once = λ name p q one other. once name one.0 other.0 p q one.2 other.2 (whose name one.0 one.1) (whose name other.0 other.1);
-    aborted_absent = λ name cause place answered is_in. no_abort name answered.0 cause place answered.2 (whose name answered.0 answered.1);
+    aborted_absent = λ name cause position answered is_in. no_abort name answered.0 cause position answered.2 (whose name answered.0 answered.1);
     replies_replay = replies;
   }
 
-  -- the transactions of two members, by their places
+  -- the transactions of two members, by their positions
   real_time : RealTimeOrder transcript history
   real_time i j x y committed began at at' answered begins later =
       let first = member_at i x at in

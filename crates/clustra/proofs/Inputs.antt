@@ -8,7 +8,7 @@ use Rattle.cl_io.proofs.ToldLemmas.{prepend_known-more}
 use Rattle.cl_serial.specs.Bytes.{whole_lines}
 use Rattle.cl_serial.proofs.LineLemmas.{newlines, one_if, length-whole_lines_append}
 use Rattle.clustra.specs.Input.{IsTooMuch, LastPieceIsTooMuch}
-use Rattle.clustra.specs.Reading.{Reads, EndsReading, AddsPiece}
+use Rattle.clustra.specs.Reading.{ReadsBytes, EndsReading, AddsPiece}
 use Rattle.clustra.specs.declared.input.InputFault.{InputFault}
 use Rattle.clustra.specs.declared.input.InputFault.TheVariants.{Read, TooMuch, NoMemory}
 
@@ -61,9 +61,9 @@ LastPieceIsTooMuch-add bytes piece fits some small =
     }
 
 -- the piece could not be added
-pub Reads-refused : {V : Type 0} (view : V → List ℕ) (start now next : Option (List ℕ)) (count : ℕ) (bytes piece grown : List ℕ) (fault : InputFault) → ReadSoFar start now count bytes → now ≡ prepend_known piece next →
-    AddsPiece bytes piece grown (Err fault) → length bytes + length piece ≤ 25700001 → 0 < length piece → length piece ≤ 65536 → Reads view start next (Err fault)
-Reads-refused view start now next count bytes piece grown fault h more adds short some small = record {
+pub ReadsBytes-refused : {V : Type 0} (view : V → List ℕ) (start now next : Option (List ℕ)) (count : ℕ) (bytes piece grown : List ℕ) (fault : InputFault) → ReadSoFar start now count bytes → now ≡ prepend_known piece next →
+    AddsPiece bytes piece grown (Err fault) → length bytes + length piece ≤ 25700001 → 0 < length piece → length piece ≤ 65536 → ReadsBytes view start next (Err fault)
+ReadsBytes-refused view start now next count bytes piece grown fault h more adds short some small = record {
   read = bytes ++ piece;
   taken = prepend_known-more start now next bytes piece h.taken more;
   within = let e = length-append bytes piece in omega (arith, e, short);
@@ -83,8 +83,8 @@ not_read bytes piece grown TooMuch P adds is = absurd (cc)
 not_read bytes piece grown NoMemory P adds is = absurd (cc)
 
 -- a read that failed
-pub Reads-fault : {V : Type 0} (view : V → List ℕ) (start now next : Option (List ℕ)) (count : ℕ) (bytes : List ℕ) → ReadSoFar start now count bytes → next ≡ now → Reads view start next (Err Read)
-Reads-fault view start now next count bytes h same = record {
+pub ReadsBytes-fault : {V : Type 0} (view : V → List ℕ) (start now next : Option (List ℕ)) (count : ℕ) (bytes : List ℕ) → ReadSoFar start now count bytes → next ≡ now → ReadsBytes view start next (Err Read)
+ReadsBytes-fault view start now next count bytes h same = record {
   read = bytes;
   taken = h.taken ∙ ap (prepend_known bytes) (sym same);
   within = omega (arith, few_bytes_of bytes h.fits);
@@ -93,9 +93,9 @@ Reads-fault view start now next count bytes h same = record {
 }
 
 -- the end
-pub Reads-end : {V : Type 0} (view : V → List ℕ) (start now next : Option (List ℕ)) (count : ℕ) (bytes none : List ℕ) (all : V) → ReadSoFar start now count bytes → now ≡ prepend_known none next → none ≡ [] →
-    view all ≡ bytes → Reads view start next (Ok all)
-Reads-end view start now next count bytes none all h more is_none viewed = record {
+pub ReadsBytes-end : {V : Type 0} (view : V → List ℕ) (start now next : Option (List ℕ)) (count : ℕ) (bytes none : List ℕ) (all : V) → ReadSoFar start now count bytes → now ≡ prepend_known none next → none ≡ [] →
+    view all ≡ bytes → ReadsBytes view start next (Ok all)
+ReadsBytes-end view start now next count bytes none all h more is_none viewed = record {
   read = bytes;
   taken = h.taken ∙ ap (prepend_known bytes) (more ∙ ap (λ list. prepend_known list next) is_none ∙ prepend_known-nil next);
   within = omega (arith, few_bytes_of bytes h.fits);
@@ -104,9 +104,9 @@ Reads-end view start now next count bytes none all h more is_none viewed = recor
 }
 
 -- nothing was read
-pub Reads-nothing : {V : Type 0} (view : V → List ℕ) (start : Option (List ℕ)) → Reads view start start (Err NoMemory)
+pub ReadsBytes-nothing : {V : Type 0} (view : V → List ℕ) (start : Option (List ℕ)) → ReadsBytes view start start (Err NoMemory)
 unfolding whole_lines
-Reads-nothing view start = record {
+ReadsBytes-nothing view start = record {
   read = [];
   taken = sym (prepend_known-nil start);
   within = omega arith;

@@ -8,9 +8,9 @@ use Rattle.cl_lines.specs.declared.line.Line.TheVariants.{Client}
 use Rattle.cl_lines.specs.declared.line.LineFault.{LineFault}
 use Rattle.cl_lines.specs.declared.out.Out.TheVariants.{Answer, BadLine}
 use Rattle.cl_lines.specs.Line.{line_of, client_of, client_part, fault_of, fault_part}
-use Rattle.cl_serial.specs.Transcript.{Entry, gather, faulty_lines, refusals, numbered_fault}
+use Rattle.cl_serial.specs.Transcript.{TranscriptEntry, gather, faulty_lines, refusals, numbered_fault}
 use Rattle.cl_serial.specs.Exchanges.{pair_up, in_turn}
-use Rattle.cl_serial.specs.Transactions.{Session, session_of, session_step}
+use Rattle.cl_serial.specs.Transactions.{Session, session_state, session_step}
 use Rattle.cl_types.specs.Places.{Place}
 use Rattle.cl_serial.specs.PlainMap.{Values, RepliesAgree}
 use Rattle.cl_serial.specs.Serial.{FitsTurn}
@@ -20,7 +20,7 @@ use Rattle.clustra.proofs.Turns.{exchange_at}
 use Rattle.clustra.proofs.Orders.{InOrder-nil}
 use Rattle.clustra.proofs.Steps.{Together-turn, FitsTurn-turn}
 use Rattle.clustra.proofs.Pairs.{with_pair, length-with_pair, faulty_lines-with_pair, refusals-with_pair}
-use Rattle.clustra.proofs.Answered.{questions-others, answers-others, paired-longer, session_of-first, AnswersFollow-longer, AnswersFitTurns-longer, RefusalsTrue-longer, EveryLineAnswered-longer}
+use Rattle.clustra.proofs.Answered.{questions-others, answers-others, paired-longer, session_state-first, AnswersFollow-longer, AnswersFitTurns-longer, RefusalsTrue-longer, EveryLineAnswered-longer}
 use Rattle.clustra.proofs.Refused.{Served-refused_line}
 use Rattle.clustra.proofs.Members.{CommittedForMembers-longer}
 use Rattle.clustra.proofs.Unaborted.{NeverAborts-answered}
@@ -43,29 +43,29 @@ Served-start values empty = record {
     values_are = empty;
     in_order = InOrder-nil 0;
   };
-  for_members = λ session place h. absurd (cc);
-  follow = λ session k outcome place h. absurd (cc);
+  for_members = λ session position h. absurd (cc);
+  follow = λ session k outcome position h. absurd (cc);
   fit_turns = λ session k exchange outcome h is. absurd (cc);
-  refused = λ place line fault h. absurd (cc);
+  refused = λ position line fault h. absurd (cc);
   refused_once = refl;
-  unaborted = λ session place cause h. absurd (cc);
+  unaborted = λ session position cause h. absurd (cc);
   every_line = record {
     answered = λ session k exchange h. absurd (cc);
-    refused = λ place line text fault h is. absurd (cc);
+    refused = λ position line text fault h is. absurd (cc);
   };
 }
 
 -- a command of session 1 and its outcome
-pub Served-answered : (transcript : List Entry) (number : ℕ) (text : List ℕ) (command : Command) (outcome : Outcome) (history : List TxnId) (values after : Values) (begun : ℕ) (count : Option ℕ) →
+pub Served-answered : (transcript : List TranscriptEntry) (number : ℕ) (text : List ℕ) (command : Command) (outcome : Outcome) (history : List TxnId) (values after : Values) (begun : ℕ) (count : Option ℕ) →
     Served transcript history values begun count → line_of text ≡ Ok (Client 1 command) → IsAsked command → outcome ≡ turn_outcome count command values →
     ((place : Place) → after place ≡ turn_values count command values place) →
     Served (with_pair transcript number text (Answer 1 outcome)) (turn_history count command begun history) after (turn_begun count command begun) (turn_count count command)
 Served-answered transcript number text command outcome history values after begun count h line asked outcome_is changed =
     let reads : client_of text ≡ Some (1, command) = ap client_part line in
     let well : fault_of text ≡ None = ap fault_part line in
-    let state : Session = session_of 1 transcript in
-    let longer : List Entry = with_pair transcript number text (Answer 1 outcome) in
-    let new : session_of 1 longer ≡ session_step state (exchange_at (length transcript) command outcome) = session_of-first transcript number text command outcome reads h.paired in
+    let state : Session = session_state 1 transcript in
+    let longer : List TranscriptEntry = with_pair transcript number text (Answer 1 outcome) in
+    let new : session_state 1 longer ≡ session_step state (exchange_at (length transcript) command outcome) = session_state-first transcript number text command outcome reads h.paired in
     let P : Session → Type 0 = λ session. Together session.ended session.current (length longer) (turn_history count command begun history) after (turn_begun count command begun) (turn_count count command) in
     let Q : ℕ → Type 0 = λ size. Together (session_step state (exchange_at (length transcript) command outcome)).ended (session_step state (exchange_at (length transcript) command outcome)).current size
     (turn_history count command begun history) after (turn_begun count command begun) (turn_count count command) in
@@ -92,7 +92,7 @@ Served-answered transcript number text command outcome history values after begu
     }
 
 -- a line that is refused
-pub Served-refused : (transcript : List Entry) (number : ℕ) (text : List ℕ) (fault : LineFault) (history : List TxnId) (values after : Values) (begun : ℕ) (count : Option ℕ) →
+pub Served-refused : (transcript : List TranscriptEntry) (number : ℕ) (text : List ℕ) (fault : LineFault) (history : List TxnId) (values after : Values) (begun : ℕ) (count : Option ℕ) →
     Served transcript history values begun count → line_of text ≡ Err fault → ((place : Place) → after place ≡ values place) →
     Served (with_pair transcript number text (BadLine number fault)) history after begun count
 Served-refused transcript number text fault history values after begun count h line same =

@@ -10,8 +10,8 @@ use Rattle.cl_types.specs.declared.answers.Outcome.{Outcome}
 use Rattle.cl_types.specs.declared.answers.Outcome.TheVariants.{Done, Committed, Full}
 use Rattle.cl_lines.specs.declared.out.Out.TheVariants.{Answer}
 use Rattle.cl_lines.specs.Line.{client_of}
-use Rattle.cl_serial.specs.Transcript.{Entry, fed, written, questions, answers}
-use Rattle.cl_serial.specs.Transactions.{Transaction, Session, session_of, session_step, with_command, commands_in, numbered}
+use Rattle.cl_serial.specs.Transcript.{TranscriptEntry, fed, written, questions, answers}
+use Rattle.cl_serial.specs.Transactions.{Transaction, Session, session_state, session_step, with_command, commands_in, numbered}
 use Rattle.cl_serial.specs.PlainMap.{Values, operations}
 use Rattle.cl_serial.specs.Serial.{StandsAt, IsIn, IsAnswered, CommittedForMembers}
 use Rattle.cl_serial.proofs.Places.{StandsAt-push_last, IsIn-append_left, IsIn-push_last}
@@ -21,7 +21,7 @@ use Rattle.clustra.specs.Served.{Together, count_in}
 use Rattle.clustra.proofs.Turns.{exchange_at}
 use Rattle.clustra.proofs.Steps.{next}
 use Rattle.clustra.proofs.Standing.{Standing, before, the_line, the_answer, standing}
-use Rattle.clustra.proofs.Answered.{session_of-first, IsAnswered-longer}
+use Rattle.clustra.proofs.Answered.{session_state-first, IsAnswered-longer}
 use Rattle.clustra.proofs.Pairs.{with_pair}
 
 -- a command that is answered COMMITTED is COMMIT in a transaction
@@ -76,45 +76,45 @@ last_in_history count command begun history n is_open is_commit =
     let Q : Command → Type 0 = λ c. IsIn (turn_history (Some n) c begun history) (record { session = 1; number = begun }) in
     subst P (sym is_open) (subst Q (sym is_commit) (IsIn-push_last history (record { session = 1; number = begun })))
 
-module _ (transcript : List Entry) (number : ℕ) (text : List ℕ) (command : Command) (outcome : Outcome) (reads : client_of text ≡ Some (1, command))
+module _ (transcript : List TranscriptEntry) (number : ℕ) (text : List ℕ) (command : Command) (outcome : Outcome) (reads : client_of text ≡ Some (1, command))
     (history : List TxnId) (values : Values) (begun : ℕ) (count : Option ℕ) (paired : length (questions 1 transcript) ≡ length (answers 1 transcript))
-    (kept : Together (session_of 1 transcript).ended (session_of 1 transcript).current (length transcript) history values begun count)
+    (kept : Together (session_state 1 transcript).ended (session_state 1 transcript).current (length transcript) history values begun count)
     (outcome_is : outcome ≡ turn_outcome count command values) where
-  abbrev longer : List Entry
+  abbrev longer : List TranscriptEntry
   longer = with_pair transcript number text (Answer 1 outcome)
 
-  the_new_one : (place : ℕ) → place ≡ length transcript + 1 → outcome ≡ Committed → IsCommit (session_of 1 transcript).current command →
-      (n : ℕ) × IsIn (turn_history count command begun history) (record { session = 1; number = n }) × IsAnswered longer (record { session = 1; number = n }) Committed place
-  the_new_one place at is_committed (commits transaction is_open is_commit) =
+  the_new_one : (position : ℕ) → position ≡ length transcript + 1 → outcome ≡ Committed → IsCommit (session_state 1 transcript).current command →
+      (n : ℕ) × IsIn (turn_history count command begun history) (record { session = 1; number = n }) × IsAnswered longer (record { session = 1; number = n }) Committed position
+  the_new_one position at is_committed (commits transaction is_open is_commit) =
       let P : Session → Type 0 = λ session. IsIn (commands_in (numbered (all_of session) begun)) (exchange_at (length transcript) command outcome) in
-      let more : length (option_to_list (session_of 1 transcript).current) ≡ 1 = ap (λ (c : Option Transaction). length (option_to_list c)) is_open in
-      let n : begun ≡ suc (length (session_of 1 transcript).ended) = omega (arith, kept.begun_is, more) in (
+      let more : length (option_to_list (session_state 1 transcript).current) ≡ 1 = ap (λ (c : Option Transaction). length (option_to_list c)) is_open in
+      let n : begun ≡ suc (length (session_state 1 transcript).ended) = omega (arith, kept.begun_is, more) in (
         begun,
         last_in_history count command begun history (length (operations transaction.commands)) (kept.count_is ∙ ap count_in is_open) is_commit,
         (
           exchange_at (length transcript) command outcome,
-          subst P (sym (session_of-first transcript number text command outcome reads paired))
-              (last_member (session_of 1 transcript).ended (session_of 1 transcript).current command outcome (length transcript) begun transaction is_open is_commit is_committed n),
+          subst P (sym (session_state-first transcript number text command outcome reads paired))
+              (last_member (session_state 1 transcript).ended (session_state 1 transcript).current command outcome (length transcript) begun transaction is_open is_commit is_committed n),
           ap (λ o. Some (o, length transcript + 1)) is_committed ∙ ap (λ k. Some (Committed, k)) (sym at),
         ),
       )
 
-  committed_for : CommittedForMembers transcript history → (session place : ℕ) → Standing transcript (fed number text) (written (Answer 1 outcome)) (written (Answer session Committed)) place →
-      (n : ℕ) × IsIn (turn_history count command begun history) (record { session = session; number = n }) × IsAnswered longer (record { session = session; number = n }) Committed place
-  committed_for members session place (before at) =
-      let found = members session place at in (
+  committed_for : CommittedForMembers transcript history → (session position : ℕ) → Standing transcript (fed number text) (written (Answer 1 outcome)) (written (Answer session Committed)) position →
+      (n : ℕ) × IsIn (turn_history count command begun history) (record { session = session; number = n }) × IsAnswered longer (record { session = session; number = n }) Committed position
+  committed_for members session position (before at) =
+      let found = members session position at in (
         found.0,
         turn_history-keeps count command begun history (record { session = session; number = found.0 }) found.1,
-        IsAnswered-longer transcript number text command outcome reads paired (record { session = session; number = found.0 }) Committed place found.2,
+        IsAnswered-longer transcript number text command outcome reads paired (record { session = session; number = found.0 }) Committed position found.2,
       )
-  committed_for members session place (the_line at is) = absurd (cc)
-  committed_for members session place (the_answer at is) =
+  committed_for members session position (the_line at is) = absurd (cc)
+  committed_for members session position (the_answer at is) =
       let first : session ≡ 1 = cc in
       let committed : Committed ≡ outcome = cc in
-      let P : ℕ → Type 0 = λ s. (n : ℕ) × IsIn (turn_history count command begun history) (record { session = s; number = n }) × IsAnswered longer (record { session = s; number = n }) Committed place in
+      let P : ℕ → Type 0 = λ s. (n : ℕ) × IsIn (turn_history count command begun history) (record { session = s; number = n }) × IsAnswered longer (record { session = s; number = n }) Committed position in
       let Q : Option ℕ → Type 0 = λ c. turn_outcome c command values ≡ Committed in
-      subst P (sym first) (the_new_one place at (sym committed)
-      (committed_is_commit (session_of 1 transcript).current command values (subst Q kept.count_is (sym outcome_is ∙ sym committed))))
+      subst P (sym first) (the_new_one position at (sym committed)
+      (committed_is_commit (session_state 1 transcript).current command values (subst Q kept.count_is (sym outcome_is ∙ sym committed))))
 
   pub CommittedForMembers-longer : CommittedForMembers transcript history → CommittedForMembers longer (turn_history count command begun history)
-  CommittedForMembers-longer members session place h = committed_for members session place (standing transcript number text (Answer 1 outcome) place (written (Answer session Committed)) h)
+  CommittedForMembers-longer members session position h = committed_for members session position (standing transcript number text (Answer 1 outcome) position (written (Answer session Committed)) h)

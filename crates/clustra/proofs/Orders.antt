@@ -1,4 +1,4 @@
--- The places of transactions, as they grow.
+-- The positions of transactions, as they grow.
 use Rattle.std.proofs.Common.{◌≡◌, ℕ, ◌+◌, ◌<◌, ◌≤◌, ◌⊎◌, inl, inr, List, [], ◌∷◌, ◌++◌, length, Option, Some, None, refl, sym, ◌∙◌, ap, subst, arith}
 use Rattle.std.specs.Option.{unwrap_or}
 use Rattle.cl_types.specs.declared.answers.Outcome.{Outcome}
@@ -20,10 +20,10 @@ pub InOrder-nil : (size : ℕ) → InOrder [] size
 InOrder-nil size = record {
   rising = λ i j x y at at' le. absurd (let none : None ≡ Some x = at in cc);
   within = λ i x at. absurd (let none : None ≡ Some x = at in cc);
-  answered_after = λ i x exchange outcome place at is_in is. absurd (let none : None ≡ Some x = at in cc);
+  answered_after = λ i x exchange outcome position at is_in is. absurd (let none : None ≡ Some x = at in cc);
 }
 
--- the transaction that begins at this place
+-- the transaction that begins at this position
 abbrev pub begun_at : ℕ → Transaction
 begun_at size = record { begin = size; commands = [] }
 
@@ -38,10 +38,10 @@ new_within : (all : List Transaction) (size : ℕ) → InOrder all size → (i :
 new_within all size h i x (inl at) = omega (arith, h.within i x at)
 new_within all size h i x (inr new) = let e : x.begin ≡ size = ap (λ (t : Transaction). t.begin) new.1 in omega arith
 
-new_after : (all : List Transaction) (size : ℕ) → InOrder all size → (i : ℕ) (x : Transaction) (exchange : Exchange) (outcome : Outcome) (place : ℕ) → StandsAt all i x ⊎ ((i ≡ length all) × (x ≡ begun_at size)) →
-    IsIn x.commands exchange → exchange.answer ≡ Some (outcome, place) → x.begin < place
-new_after all size h i x exchange outcome place (inl at) is_in is = h.answered_after i x exchange outcome place at is_in is
-new_after all size h i x exchange outcome place (inr new) is_in is =
+new_after : (all : List Transaction) (size : ℕ) → InOrder all size → (i : ℕ) (x : Transaction) (exchange : Exchange) (outcome : Outcome) (position : ℕ) → StandsAt all i x ⊎ ((i ≡ length all) × (x ≡ begun_at size)) →
+    IsIn x.commands exchange → exchange.answer ≡ Some (outcome, position) → x.begin < position
+new_after all size h i x exchange outcome position (inl at) is_in is = h.answered_after i x exchange outcome position at is_in is
+new_after all size h i x exchange outcome position (inr new) is_in is =
     let P : Transaction → Type 0 = λ t. IsIn t.commands exchange in absurd (IsIn-nil exchange (subst P new.1 is_in))
 
 -- a transaction begins at the end
@@ -49,7 +49,7 @@ pub InOrder-begun : (all : List Transaction) (size : ℕ) → InOrder all size �
 InOrder-begun all size h = record {
   rising = λ i j x y at at' le. new_rising all size h i j x y (StandsAt-push all (begun_at size) i x at) (StandsAt-push all (begun_at size) j y at') le;
   within = λ i x at. new_within all size h i x (StandsAt-push all (begun_at size) i x at);
-  answered_after = λ i x exchange outcome place at is_in is. new_after all size h i x exchange outcome place (StandsAt-push all (begun_at size) i x at) is_in is;
+  answered_after = λ i x exchange outcome position at is_in is. new_after all size h i x exchange outcome position (StandsAt-push all (begun_at size) i x at) is_in is;
 }
 
 -- a transaction of the list with the last one replaced begins where the old one there did
@@ -61,21 +61,21 @@ old_there ended current new same i x (inr is) =
     (current, subst P (sym is.0) (StandsAt-push_last ended current), ap (λ (t : Transaction). t.begin) is.1 ∙ same)
 
 one_more_after : (ended : List Transaction) (current : Transaction) (one : Exchange) (size : ℕ) (given : Outcome) → InOrder (ended ++ current ∷ []) size → one.answer ≡ Some (given, size + 1) →
-    (i : ℕ) (x : Transaction) (exchange : Exchange) (outcome : Outcome) (place : ℕ) → StandsAt ended i x ⊎ ((i ≡ length ended) × (x ≡ with_command current one)) →
-    IsIn x.commands exchange → exchange.answer ≡ Some (outcome, place) → x.begin < place
-one_more_after ended current one size given h answer i x exchange outcome place (inl at) is_in is =
-    h.answered_after i x exchange outcome place (StandsAt-append_left ended (current ∷ []) i x at) is_in is
-one_more_after ended current one size given h answer i x exchange outcome place (inr new) is_in is =
+    (i : ℕ) (x : Transaction) (exchange : Exchange) (outcome : Outcome) (position : ℕ) → StandsAt ended i x ⊎ ((i ≡ length ended) × (x ≡ with_command current one)) →
+    IsIn x.commands exchange → exchange.answer ≡ Some (outcome, position) → x.begin < position
+one_more_after ended current one size given h answer i x exchange outcome position (inl at) is_in is =
+    h.answered_after i x exchange outcome position (StandsAt-append_left ended (current ∷ []) i x at) is_in is
+one_more_after ended current one size given h answer i x exchange outcome position (inr new) is_in is =
     let P : Transaction → Type 0 = λ t. IsIn t.commands exchange in
     let same : x.begin ≡ current.begin = ap (λ (t : Transaction). t.begin) new.1 in
     in_last (IsIn-push current.commands one exchange (subst P new.1 is_in)) same
   where
-    in_last : IsIn current.commands exchange ⊎ (exchange ≡ one) → x.begin ≡ current.begin → x.begin < place
-    in_last (inl old) same = omega (arith, same, h.answered_after (length ended) current exchange outcome place (StandsAt-push_last ended current) old is)
+    in_last : IsIn current.commands exchange ⊎ (exchange ≡ one) → x.begin ≡ current.begin → x.begin < position
+    in_last (inl old) same = omega (arith, same, h.answered_after (length ended) current exchange outcome position (StandsAt-push_last ended current) old is)
     in_last (inr is_one) same =
-        let answers : Some (outcome, place) ≡ Some (given, size + 1) = sym is ∙ ap (λ (e : Exchange). e.answer) is_one ∙ answer in
-        let places : place ≡ size + 1 = ap (λ (o : Option (Outcome × ℕ)). (unwrap_or o (outcome, 0)).1) answers in
-        omega (arith, same, places, h.within (length ended) current (StandsAt-push_last ended current))
+        let answers : Some (outcome, position) ≡ Some (given, size + 1) = sym is ∙ ap (λ (e : Exchange). e.answer) is_one ∙ answer in
+        let positions : position ≡ size + 1 = ap (λ (o : Option (Outcome × ℕ)). (unwrap_or o (outcome, 0)).1) answers in
+        omega (arith, same, positions, h.within (length ended) current (StandsAt-push_last ended current))
 
 -- the last transaction has one more command, which is answered at the end
 pub InOrder-with_command : (ended : List Transaction) (current : Transaction) (one : Exchange) (size : ℕ) (given : Outcome) → InOrder (ended ++ current ∷ []) size → one.answer ≡ Some (given, size + 1) →
@@ -88,6 +88,6 @@ InOrder-with_command ended current one size given h answer = record {
   within = λ i x at.
       let a = old_there ended current (with_command current one) refl i x (StandsAt-push ended (with_command current one) i x at) in
       omega (arith, a.2, h.within i a.0 a.1);
-  answered_after = λ i x exchange outcome place at is_in is.
-      one_more_after ended current one size given h answer i x exchange outcome place (StandsAt-push ended (with_command current one) i x at) is_in is;
+  answered_after = λ i x exchange outcome position at is_in is.
+      one_more_after ended current one size given h answer i x exchange outcome position (StandsAt-push ended (with_command current one) i x at) is_in is;
 }

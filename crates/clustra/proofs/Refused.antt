@@ -6,8 +6,8 @@ use Rattle.cl_types.specs.declared.answers.Outcome.TheVariants.{Committed}
 use Rattle.cl_lines.specs.declared.line.LineFault.{LineFault}
 use Rattle.cl_lines.specs.declared.out.Out.TheVariants.{Answer, BadLine}
 use Rattle.cl_lines.specs.Line.{client_of, fault_of}
-use Rattle.cl_serial.specs.Transcript.{Entry, fed, written, questions, answers, command_in, faulty_lines, numbered_fault}
-use Rattle.cl_serial.specs.Transactions.{Session, session_of}
+use Rattle.cl_serial.specs.Transcript.{TranscriptEntry, fed, written, questions, answers, command_in, faulty_lines, numbered_fault}
+use Rattle.cl_serial.specs.Transactions.{Session, session_state}
 use Rattle.cl_types.specs.Places.{Place}
 use Rattle.cl_serial.specs.PlainMap.{Values}
 use Rattle.cl_serial.specs.Serial.{StandsAt, IsIn, IsAnswered, CommittedForMembers, RefusalsTrue, EveryLineAnswered}
@@ -15,11 +15,11 @@ use Rattle.clustra.specs.Served.{Together, Served}
 use Rattle.clustra.proofs.Turns.{Together-idle}
 use Rattle.clustra.proofs.Pairs.{with_pair, length-with_pair, questions-with_pair, answers-with_pair, faulty_lines-with_pair, refusals-with_pair}
 use Rattle.clustra.proofs.Unaborted.{NeverAborts-refused}
-use Rattle.cl_serial.proofs.SameSession.{session_of-same, commands-same, follow-same, fit-same, answered-same}
+use Rattle.cl_serial.proofs.SameSession.{session_state-same, commands-same, follow-same, fit-same, answered-same}
 use Rattle.clustra.proofs.Standing.{Standing, before, the_line, the_answer, standing, line_stands, answer_stands, fault_in, refusal-before, refusal-after}
 
-module _ (transcript : List Entry) (number : ℕ) (text : List ℕ) (fault : LineFault) (reads : client_of text ≡ None) (faulty : fault_of text ≡ Some fault) where
-  abbrev longer : List Entry
+module _ (transcript : List TranscriptEntry) (number : ℕ) (text : List ℕ) (fault : LineFault) (reads : client_of text ≡ None) (faulty : fault_of text ≡ Some fault) where
+  abbrev longer : List TranscriptEntry
   longer = with_pair transcript number text (BadLine number fault)
 
   same_questions : (session : ℕ) → questions session longer ≡ questions session transcript
@@ -29,51 +29,51 @@ module _ (transcript : List Entry) (number : ℕ) (text : List ℕ) (fault : Lin
   same_answers : (session : ℕ) → answers session longer ≡ answers session transcript
   same_answers session = answers-with_pair session transcript number text (BadLine number fault) ∙ append-nil (answers session transcript)
 
-  members_before : (history : List TxnId) → CommittedForMembers transcript history → (session place : ℕ) →
-      Standing transcript (fed number text) (written (BadLine number fault)) (written (Answer session Committed)) place →
-      (n : ℕ) × IsIn history (record { session = session; number = n }) × IsAnswered longer (record { session = session; number = n }) Committed place
-  members_before history members session place (before at) =
-      let found = members session place at in
+  members_before : (history : List TxnId) → CommittedForMembers transcript history → (session position : ℕ) →
+      Standing transcript (fed number text) (written (BadLine number fault)) (written (Answer session Committed)) position →
+      (n : ℕ) × IsIn history (record { session = session; number = n }) × IsAnswered longer (record { session = session; number = n }) Committed position
+  members_before history members session position (before at) =
+      let found = members session position at in
       (found.0, found.1, (found.2.0, commands-same longer transcript session (same_questions session) (same_answers session) found.0 found.2.0 found.2.1, found.2.2))
-  members_before history members session place (the_line at is) = absurd (cc)
-  members_before history members session place (the_answer at is) = absurd (cc)
+  members_before history members session position (the_line at is) = absurd (cc)
+  members_before history members session position (the_answer at is) = absurd (cc)
 
-  refused_before : RefusalsTrue transcript → (place line : ℕ) (given : LineFault) → Standing transcript (fed number text) (written (BadLine number fault)) (written (BadLine line given)) place →
-      (earlier : ℕ) × (refused : List ℕ) × (earlier < place) × StandsAt longer earlier (fed line refused) × (fault_of refused ≡ Some given)
-  refused_before true_before place line given (before at) = refusal-before transcript number text (BadLine number fault) true_before place line given at
-  refused_before true_before place line given (the_line at is) = absurd (cc)
-  refused_before true_before place line given (the_answer at is) =
+  refused_before : RefusalsTrue transcript → (position line : ℕ) (given : LineFault) → Standing transcript (fed number text) (written (BadLine number fault)) (written (BadLine line given)) position →
+      (earlier : ℕ) × (refused : List ℕ) × (earlier < position) × StandsAt longer earlier (fed line refused) × (fault_of refused ≡ Some given)
+  refused_before true_before position line given (before at) = refusal-before transcript number text (BadLine number fault) true_before position line given at
+  refused_before true_before position line given (the_line at is) = absurd (cc)
+  refused_before true_before position line given (the_answer at is) =
       let same_line : number ≡ line = cc in
       let same_fault : fault ≡ given = cc in
       let P : ℕ → Type 0 = λ n. StandsAt longer (length transcript) (fed n text) in
       (length transcript, text, omega (arith, at), subst P same_line (line_stands transcript number text (BadLine number fault)), faulty ∙ ap Some same_fault)
 
-  refused_after : EveryLineAnswered transcript → (place line : ℕ) (refused : List ℕ) (given : LineFault) →
-      Standing transcript (fed number text) (written (BadLine number fault)) (fed line refused) place → fault_of refused ≡ Some given →
-      (after : ℕ) × (place < after) × StandsAt longer after (written (BadLine line given))
-  refused_after every place line refused given (before at) is = refusal-after transcript number text (BadLine number fault) every place line refused given at is
-  refused_after every place line refused given (the_line at same) is =
+  refused_after : EveryLineAnswered transcript → (position line : ℕ) (refused : List ℕ) (given : LineFault) →
+      Standing transcript (fed number text) (written (BadLine number fault)) (fed line refused) position → fault_of refused ≡ Some given →
+      (after : ℕ) × (position < after) × StandsAt longer after (written (BadLine line given))
+  refused_after every position line refused given (before at) is = refusal-after transcript number text (BadLine number fault) every position line refused given at is
+  refused_after every position line refused given (the_line at same) is =
       let same_line : number ≡ line = cc in
       let both : Some fault ≡ Some given = sym faulty ∙ ap fault_in (sym same) ∙ is in
       let same_fault : fault ≡ given = cc in
       let P : ℕ → Type 0 = λ n. StandsAt longer (length transcript + 1) (written (BadLine n fault)) in
       let Q : LineFault → Type 0 = λ f. StandsAt longer (length transcript + 1) (written (BadLine line f)) in
       (length transcript + 1, omega (arith, at), subst Q same_fault (subst P same_line (answer_stands transcript number text (BadLine number fault))))
-  refused_after every place line refused given (the_answer at same) is = absurd (cc)
+  refused_after every position line refused given (the_answer at same) is = absurd (cc)
 
   -- a line that is refused
   pub Served-refused_line : (history : List TxnId) (values after : Values) (begun : ℕ) (count : Option ℕ) → Served transcript history values begun count → ((place : Place) → after place ≡ values place) →
       Served longer history after begun count
   Served-refused_line history values after begun count h same =
       let P : Session → Type 0 = λ session. Together session.ended session.current (length longer) history after begun count in
-      let Q : ℕ → Type 0 = λ size. Together (session_of 1 transcript).ended (session_of 1 transcript).current size history after begun count in
+      let Q : ℕ → Type 0 = λ size. Together (session_state 1 transcript).ended (session_state 1 transcript).current size history after begun count in
       record {
         paired = ap length (same_questions 1) ∙ h.paired ∙ sym (ap length (same_answers 1));
         unasked = λ session other. same_questions session ∙ h.unasked session other;
         unanswered = λ session other. same_answers session ∙ h.unanswered session other;
-        kept = subst P (sym (session_of-same longer transcript 1 (same_questions 1) (same_answers 1))) (subst Q (sym (length-with_pair transcript number text (BadLine number fault)))
-            (Together-idle (session_of 1 transcript).ended (session_of 1 transcript).current (length transcript) history values after begun count same h.kept));
-        for_members = λ session place at. members_before history h.for_members session place (standing transcript number text (BadLine number fault) place (written (Answer session Committed)) at);
+        kept = subst P (sym (session_state-same longer transcript 1 (same_questions 1) (same_answers 1))) (subst Q (sym (length-with_pair transcript number text (BadLine number fault)))
+            (Together-idle (session_state 1 transcript).ended (session_state 1 transcript).current (length transcript) history values after begun count same h.kept));
+        for_members = λ session position at. members_before history h.for_members session position (standing transcript number text (BadLine number fault) position (written (Answer session Committed)) at);
         follow = λ session. follow-same longer transcript session (same_questions session) (same_answers session) h.follow;
         fit_turns = λ session. fit-same longer transcript session (same_questions session) (same_answers session) h.fit_turns;
         refused_once = faulty_lines-with_pair transcript number text (BadLine number fault)
@@ -81,9 +81,9 @@ module _ (transcript : List Entry) (number : ℕ) (text : List ℕ) (fault : Lin
             ∙ ap (λ list. list ++ (number, fault) ∷ []) h.refused_once
             ∙ sym (refusals-with_pair transcript number text (BadLine number fault));
         unaborted = NeverAborts-refused transcript number text fault h.unaborted;
-        refused = λ place line given at. refused_before h.refused place line given (standing transcript number text (BadLine number fault) place (written (BadLine line given)) at);
+        refused = λ position line given at. refused_before h.refused position line given (standing transcript number text (BadLine number fault) position (written (BadLine line given)) at);
         every_line = record {
           answered = λ session. answered-same longer transcript session (same_questions session) (same_answers session) h.every_line;
-          refused = λ place line refused given at is. refused_after h.every_line place line refused given (standing transcript number text (BadLine number fault) place (fed line refused) at) is;
+          refused = λ position line refused given at is. refused_after h.every_line position line refused given (standing transcript number text (BadLine number fault) position (fed line refused) at) is;
         };
       }

@@ -1,9 +1,9 @@
 -- What a run read and fed, by how reading ended.
 use Rattle.std.proofs.Common.{◌≡◌, ℕ, ◌⊎◌, inl, inr, List, [], Option, Ok, Err, refl, sym, ◌∙◌, ap, subst, arith}
-use Rattle.cl_serial.specs.Transcript.{Entry, gather, fed_lines}
+use Rattle.cl_serial.specs.Transcript.{TranscriptEntry, gather, fed_lines}
 use Rattle.cl_serial.specs.Bytes.{lines_of, FeedsFirstLines}
 use Rattle.clustra.specs.Input.{IsTooMuch}
-use Rattle.clustra.specs.Reading.{Reads, EndsReading}
+use Rattle.clustra.specs.Reading.{ReadsBytes, EndsReading}
 use Rattle.clustra.specs.Run.{ReadsInput}
 use Rattle.clustra.specs.declared.input.InputFault.{InputFault}
 use Rattle.clustra.specs.declared.input.InputFault.TheVariants.{Read, TooMuch, NoMemory}
@@ -14,7 +14,7 @@ not_five status (inr (inl four_is)) five = absurd (omega arith)
 not_five status (inr (inr six_is)) five = absurd (omega arith)
 
 -- the whole input was read
-pub ReadsInput-all : {V : Type 0} (view : V → List ℕ) (status : ℕ) (before after : Option (List ℕ)) (transcript : List Entry) (all : V) → Reads view before after (Ok all) →
+pub ReadsInput-all : {V : Type 0} (view : V → List ℕ) (status : ℕ) (before after : Option (List ℕ)) (transcript : List TranscriptEntry) (all : V) → ReadsBytes view before after (Ok all) →
     FeedsFirstLines transcript (view all) → (status ≡ 0 → fed_lines transcript ≡ lines_of (view all)) → (status ≡ 0) ⊎ ((status ≡ 4) ⊎ (status ≡ 6)) → ReadsInput status before after transcript
 ReadsInput-all view status before after transcript all h first whole ended =
     let P : List ℕ → Type 0 = λ bytes. FeedsFirstLines transcript bytes in
@@ -35,11 +35,11 @@ too_much_by TooMuch status read view ends from to = (λ five. ends, λ many. to 
 too_much_by NoMemory status read view ends from to = (λ five. absurd (let e : NoMemory ≡ TooMuch = from five in cc), λ many. absurd (ends many))
 
 -- reading stopped before the end
-pub ReadsInput-fault : {V : Type 0} (view : V → List ℕ) (status : ℕ) (before after : Option (List ℕ)) (transcript : List Entry) (fault : InputFault) → Reads view before after (Err fault) →
+pub ReadsInput-fault : {V : Type 0} (view : V → List ℕ) (status : ℕ) (before after : Option (List ℕ)) (transcript : List TranscriptEntry) (fault : InputFault) → ReadsBytes view before after (Err fault) →
     transcript ≡ [] → (status ≡ 3) ⊎ ((status ≡ 5) ⊎ (status ≡ 6)) → (status ≡ 5 → fault ≡ TooMuch) → (fault ≡ TooMuch → status ≡ 5) → ReadsInput status before after transcript
 unfolding gather
 ReadsInput-fault view status before after transcript fault h none ended from to =
-    let P : List Entry → Type 0 = λ t. FeedsFirstLines t h.read in
+    let P : List TranscriptEntry → Type 0 = λ t. FeedsFirstLines t h.read in
     let both = too_much_by fault status h.read view h.ends from to in
     record {
       read = h.read;

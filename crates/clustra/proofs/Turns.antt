@@ -124,7 +124,7 @@ Together-committed ended current size history values after begun count same h =
       count_is = refl;
       at_most = tt;
       ended_committed = AllByRecursion-push EndsCommitted ended (with_command current one) h.ended_committed
-          (record { front = current.commands; line = size; place = size + 1; commands_are = refl; goes_on = h.is_open });
+          (record { front = current.commands; line = size; position = size + 1; commands_are = refl; goes_on = h.is_open });
       is_open = tt;
       replies = subst P (sym done) h.replies;
       values_are = λ place. same place ∙ h.values_are place ∙ ap (λ list. after_operations no_values list place) (sym done);

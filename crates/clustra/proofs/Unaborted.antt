@@ -9,7 +9,7 @@ use Rattle.cl_types.specs.declared.answers.Outcome.TheVariants.{Done, Aborted, F
 use Rattle.cl_types.specs.Plain.{plain_reply}
 use Rattle.cl_lines.specs.declared.line.LineFault.{LineFault}
 use Rattle.cl_lines.specs.declared.out.Out.TheVariants.{Answer, BadLine}
-use Rattle.cl_serial.specs.Transcript.{Entry, fed, written}
+use Rattle.cl_serial.specs.Transcript.{TranscriptEntry, fed, written}
 use Rattle.cl_serial.specs.PlainMap.{Values}
 use Rattle.clustra.specs.Turn.{turn_outcome}
 use Rattle.clustra.specs.Run.{NeverAborts}
@@ -32,22 +32,22 @@ turn_goes_on (Some count) Commit values cause h = absurd (cc)
 turn_goes_on (Some count) Abort values cause h = absurd (cc)
 
 -- a command and its outcome
-pub NeverAborts-answered : (transcript : List Entry) (number : ℕ) (text : List ℕ) (command : Command) (outcome : Outcome) (values : Values) (count : Option ℕ) →
+pub NeverAborts-answered : (transcript : List TranscriptEntry) (number : ℕ) (text : List ℕ) (command : Command) (outcome : Outcome) (values : Values) (count : Option ℕ) →
     outcome ≡ turn_outcome count command values → NeverAborts transcript → NeverAborts (with_pair transcript number text (Answer 1 outcome))
-NeverAborts-answered transcript number text command outcome values count outcome_is never session place cause at =
-    by_place (standing transcript number text (Answer 1 outcome) place (written (Answer session (Aborted cause))) at)
+NeverAborts-answered transcript number text command outcome values count outcome_is never session position cause at =
+    by_place (standing transcript number text (Answer 1 outcome) position (written (Answer session (Aborted cause))) at)
   where
-    by_place : Standing transcript (fed number text) (written (Answer 1 outcome)) (written (Answer session (Aborted cause))) place → ⊥
-    by_place (before old) = never session place cause old
+    by_place : Standing transcript (fed number text) (written (Answer 1 outcome)) (written (Answer session (Aborted cause))) position → ⊥
+    by_place (before old) = never session position cause old
     by_place (the_line here is) = absurd (cc)
     by_place (the_answer here is) = let aborted : outcome ≡ Aborted cause = cc in turn_goes_on count command values cause (sym outcome_is ∙ aborted)
 
 -- a line that is refused
-pub NeverAborts-refused : (transcript : List Entry) (number : ℕ) (text : List ℕ) (fault : LineFault) → NeverAborts transcript → NeverAborts (with_pair transcript number text (BadLine number fault))
-NeverAborts-refused transcript number text fault never session place cause at =
-    by_place (standing transcript number text (BadLine number fault) place (written (Answer session (Aborted cause))) at)
+pub NeverAborts-refused : (transcript : List TranscriptEntry) (number : ℕ) (text : List ℕ) (fault : LineFault) → NeverAborts transcript → NeverAborts (with_pair transcript number text (BadLine number fault))
+NeverAborts-refused transcript number text fault never session position cause at =
+    by_place (standing transcript number text (BadLine number fault) position (written (Answer session (Aborted cause))) at)
   where
-    by_place : Standing transcript (fed number text) (written (BadLine number fault)) (written (Answer session (Aborted cause))) place → ⊥
-    by_place (before old) = never session place cause old
+    by_place : Standing transcript (fed number text) (written (BadLine number fault)) (written (Answer session (Aborted cause))) position → ⊥
+    by_place (before old) = never session position cause old
     by_place (the_line here is) = absurd (cc)
     by_place (the_answer here is) = absurd (cc)

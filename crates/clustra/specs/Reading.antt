@@ -13,7 +13,7 @@ EndsReading view (Err TooMuch) read = IsTooMuch read
 EndsReading view (Err NoMemory) read = IsTooMuch read → ⊥
 
 -- these bytes were read, and reading ended so
-pub record Reads {V : Type 0} (view : V → List ℕ) (before after : Option (List ℕ)) (result : Result V InputFault) : Type 0 where
+pub record ReadsBytes {V : Type 0} (view : V → List ℕ) (before after : Option (List ℕ)) (result : Result V InputFault) : Type 0 where
   pub read : List ℕ
   pub taken : before ≡ prepend_known read after
   -- no further than one byte past the limit

@@ -5,10 +5,10 @@ use Rattle.cl_types.specs.declared.operations.TxnId.{TxnId}
 use Rattle.cl_types.specs.declared.answers.AbortCause.{AbortCause}
 use Rattle.cl_types.specs.declared.answers.Outcome.TheVariants.{Aborted}
 use Rattle.cl_lines.specs.declared.out.Out.TheVariants.{Answer}
-use Rattle.cl_serial.specs.Transcript.{Entry, written, fed_lines}
-use Rattle.cl_serial.specs.Transactions.{session_of, commands_in}
-use Rattle.cl_serial.specs.PlainMap.{Values, operations, no_values, after_operations, RepliesAgree}
-use Rattle.cl_serial.specs.Serial.{StandsAt, operations_of}
+use Rattle.cl_serial.specs.Transcript.{TranscriptEntry, written, fed_lines}
+use Rattle.cl_serial.specs.Transactions.{session_state, commands_in}
+use Rattle.cl_serial.specs.PlainMap.{operations, RepliesAgree}
+use Rattle.cl_serial.specs.Serial.{StandsAt, values_after}
 use Rattle.cl_serial.specs.Bytes.{lines_of, FeedsFirstLines}
 use Rattle.clustra.specs.Input.{IsTooMuch, LastPieceIsTooMuch}
 
@@ -17,7 +17,7 @@ abbrev pub AreServe : List (List ℕ) → Type 0
 AreServe words = words ≡ codes "serve" ∷ []
 
 -- where the source tells nothing, these bytes are not determined; where it tells its bytes, they are those that it gave
-pub record ReadsInput (status : ℕ) (before after : Option (List ℕ)) (transcript : List Entry) : Type 0 where
+pub record ReadsInput (status : ℕ) (before after : Option (List ℕ)) (transcript : List TranscriptEntry) : Type 0 where
   -- the bytes that were read
   pub read : List ℕ
   pub taken : before ≡ prepend_known read after
@@ -32,18 +32,14 @@ pub record ReadsInput (status : ℕ) (before after : Option (List ℕ)) (transcr
   -- the run is stopped for its input exactly where it is too much
   pub too_much : (status ≡ 5) ↔ IsTooMuch read
 
--- the map after the history: its members' operations done one after another from the empty map
-abbrev pub values_after : List Entry → List TxnId → Values
-values_after transcript history = after_operations no_values (operations_of transcript history)
-
 -- the operations of the transaction that a session is still in have the replies that this map gives
-abbrev pub OpenRepliesAgree : List Entry → List TxnId → Type 0
+abbrev pub OpenRepliesAgree : List TranscriptEntry → List TxnId → Type 0
 OpenRepliesAgree transcript history = (session : ℕ) →
-    RepliesAgree (values_after transcript history) (operations (commands_in (session_of session transcript).current))
+    RepliesAgree (values_after transcript history) (operations (commands_in (session_state session transcript).current))
 
 -- no transaction is aborted
-abbrev pub NeverAborts : List Entry → Type 0
-NeverAborts transcript = (session place : ℕ) (cause : AbortCause) → StandsAt transcript place (written (Answer session (Aborted cause))) → ⊥
+abbrev pub NeverAborts : List TranscriptEntry → Type 0
+NeverAborts transcript = (session position : ℕ) (cause : AbortCause) → StandsAt transcript position (written (Answer session (Aborted cause))) → ⊥
 
 -- what was written is a first part of the full text, perhaps none or all
 pub record WritesText (before after : Option (List ℕ)) (text : List ℕ) : Type 0 where

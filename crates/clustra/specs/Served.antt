@@ -6,9 +6,9 @@ use Rattle.cl_types.specs.declared.operations.Command.TheVariants.{Commit}
 use Rattle.cl_types.specs.declared.operations.TxnId.{TxnId}
 use Rattle.cl_types.specs.declared.answers.Outcome.{Outcome}
 use Rattle.cl_types.specs.declared.answers.Outcome.TheVariants.{Committed}
-use Rattle.cl_serial.specs.Transcript.{Entry, questions, answers, faulty_lines, refusals}
+use Rattle.cl_serial.specs.Transcript.{TranscriptEntry, questions, answers, faulty_lines, refusals}
 use Rattle.cl_serial.specs.Exchanges.{Exchange, outcome_of}
-use Rattle.cl_serial.specs.Transactions.{Transaction, session_of, is_end}
+use Rattle.cl_serial.specs.Transactions.{Transaction, session_state, is_end}
 use Rattle.cl_types.specs.Places.{Place}
 use Rattle.cl_serial.specs.PlainMap.{Values, Operation, operations, no_values, after_operations, RepliesAgree}
 use Rattle.clustra.specs.Run.{NeverAborts}
@@ -27,8 +27,8 @@ GoesOn exchange = is_end (outcome_of exchange) ≡ false
 pub record EndsCommitted (transaction : Transaction) : Type 0 where
   pub front : List Exchange
   pub line : ℕ
-  pub place : ℕ
-  pub commands_are : transaction.commands ≡ front ++ record { command = Commit; line = line; answer = Some (Committed, place) } ∷ []
+  pub position : ℕ
+  pub commands_are : transaction.commands ≡ front ++ record { command = Commit; line = line; answer = Some (Committed, position) } ∷ []
   pub goes_on : AllByRecursion GoesOn front
 
 -- the transaction that the session is in has not ended
@@ -48,12 +48,12 @@ operations_in transaction = operations transaction.commands
 abbrev pub done_by : List Transaction → List Operation
 done_by all = flat_map operations_in all
 
--- the places of the transactions' lines and answers are in order, and below this one
+-- the positions of the transactions' lines and answers are in order, and below this one
 pub record InOrder (all : List Transaction) (size : ℕ) : Type 0 where
   pub rising : (i j : ℕ) (x y : Transaction) → StandsAt all i x → StandsAt all j y → i ≤ j → x.begin ≤ y.begin
   pub within : (i : ℕ) (x : Transaction) → StandsAt all i x → x.begin < size
-  pub answered_after : (i : ℕ) (x : Transaction) (exchange : Exchange) (outcome : Outcome) (place : ℕ) → StandsAt all i x →
-      IsIn x.commands exchange → exchange.answer ≡ Some (outcome, place) → x.begin < place
+  pub answered_after : (i : ℕ) (x : Transaction) (exchange : Exchange) (outcome : Outcome) (position : ℕ) → StandsAt all i x →
+      IsIn x.commands exchange → exchange.answer ≡ Some (outcome, position) → x.begin < position
 
 -- a transaction has at most 64 operations
 abbrev pub AtMost64 : Option ℕ → Type 0
@@ -73,11 +73,11 @@ pub record Together (ended : List Transaction) (current : Option Transaction) (s
   pub in_order : InOrder (ended ++ option_to_list current) size
 
 -- the transcript after so many whole lines
-pub record Served (transcript : List Entry) (history : List TxnId) (values : Values) (begun : ℕ) (count : Option ℕ) : Type 0 where
+pub record Served (transcript : List TranscriptEntry) (history : List TxnId) (values : Values) (begun : ℕ) (count : Option ℕ) : Type 0 where
   pub paired : length (questions 1 transcript) ≡ length (answers 1 transcript)
   pub unasked : (session : ℕ) → (session ≡ 1 → ⊥) → questions session transcript ≡ []
   pub unanswered : (session : ℕ) → (session ≡ 1 → ⊥) → answers session transcript ≡ []
-  pub kept : Together (session_of 1 transcript).ended (session_of 1 transcript).current (length transcript) history values begun count
+  pub kept : Together (session_state 1 transcript).ended (session_state 1 transcript).current (length transcript) history values begun count
   pub for_members : CommittedForMembers transcript history
   pub follow : AnswersFollow transcript
   pub fit_turns : AnswersFitTurns transcript

@@ -15,16 +15,16 @@ fn first_line(bytes: &[u8]) -> (&[u8], &[u8])
     ensures line { whole_lines bytes.now ≡ result.0.now ∷ whole_lines result.1.now }
     ensures shorter { length result.1.now < length bytes.now }
 {
-    for (place, byte) in bytes.iter().enumerate() {
+    for (position, byte) in bytes.iter().enumerate() {
         if *byte == b'\n' {
-            return (&bytes[..place], &bytes[place + 1..]);
+            return (&bytes[..position], &bytes[position + 1..]);
         }
     }
     (bytes, &[])
 }
 
 // What is kept of a line: one byte more than a line may have shows that it is too long.
-fn kept(line: &[u8]) -> &[u8]
+fn shortened(line: &[u8]) -> &[u8]
     ensures { result.now ≡ kept_line line.now }
 {
     if line.len() <= LINE_MAX {
@@ -48,7 +48,7 @@ pub(crate) fn feed_lines(alloc: Global, server: &mut Server, bytes: &[u8]) -> Re
     while !rest.is_empty() {
         let (line, after) = first_line(rest);
         number += 1;
-        server.feed(alloc, number, kept(line))?;
+        server.feed(alloc, number, shortened(line))?;
         rest = after;
     }
     Ok(())

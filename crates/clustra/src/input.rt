@@ -2,7 +2,7 @@
 ghost use Rattle.std.specs.Prelude.{◌≡◌, ℕ, ◌+◌, ◌-◌, ◌<◌, ◌≤◌, ◌==◌, ◌^◌, not, if◌then◌else◌, length, take, count_by, slice_index, IfOk, OnOk, OnErr, IfErr, Err, vec_len};
 ghost use Rattle.cl_io.specs.Faults.{Rose};
 ghost use Rattle.std.specs.Io.KnownBytes.{prepend_known, IsAtEnd};
-ghost use Rattle.clustra.specs.Reading.{Reads, AddsPiece};
+ghost use Rattle.clustra.specs.Reading.{ReadsBytes, AddsPiece};
 
 use cl_io::{Failed, Source};
 use std::alloc::{AllocError, Global};
@@ -26,7 +26,7 @@ pub(crate) enum InputFault {
     NoMemory,
 }
 
-// Reads into the front of the buffer, at most `room` bytes.
+// ReadsBytes into the front of the buffer, at most `room` bytes.
 fn read_piece<S: Source>(source: &mut S, buffer: &mut [u8], room: usize) -> Result<usize, Failed>
     requires some { 0 < room }
     requires within { room ≤ length buffer.old }
@@ -93,9 +93,9 @@ fn add_piece(bytes: &mut Vec<u8>, newlines: &mut usize, piece: &[u8]) -> Result<
     Ok(())
 }
 
-/// Reads to the end of the source, and no further than one byte past the limit.
+/// ReadsBytes to the end of the source, and no further than one byte past the limit.
 pub(crate) fn read_input<S: Source>(alloc: Global, source: &mut S) -> Result<Vec<u8>, InputFault>
-    ensures reads { Reads (λ bytes. bytes.items) (S.left source.old) (S.left source.new) result }
+    ensures reads { ReadsBytes (λ bytes. bytes.items) (S.left source.old) (S.left source.new) result }
     ensures end { IfOk result (λ _. IsAtEnd (S.left source.new)) }
     ensures fault { IfErr result (λ fault. fault ≡ InputFault.Read → Rose (S.faults source.old) (S.faults source.new)) }
     ensures counted { S.faults source.old ≤ S.faults source.new }

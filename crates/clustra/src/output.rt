@@ -1,6 +1,6 @@
 //! The full text of a transcript.
 ghost use Rattle.std.specs.Prelude.{◌≡◌, ◌++◌, IfOk, OnOk};
-ghost use Rattle.cl_serial.specs.Transcript.{transcript_of, entry_of, entry_text, full_text};
+ghost use Rattle.cl_serial.specs.Transcript.{transcript_of, transcript_entry, entry_text, full_text};
 
 use cl_lines::print_out;
 use cl_serial::{Said, Transcript};
@@ -9,7 +9,7 @@ use std::alloc::Global;
 
 // Adds what an entry writes.
 fn append_entry(alloc: Global, text: &mut Vec<u8>, said: &Said) -> Result<(), NoMemory>
-    ensures { OnOk result (text.new.items ≡ text.old.items ++ entry_text (entry_of said.now)) }
+    ensures { OnOk result (text.new.items ≡ text.old.items ++ entry_text (transcript_entry said.now)) }
 {
     if let Said::Out(out) = said {
         let printed = print_out(alloc, out)?;

@@ -77,7 +77,7 @@ fn status_of_fault(fault: InputFault) -> u8
     }
 }
 
-// Reads the whole source, answers its lines and writes the answers, and says the status.
+// ReadsBytes the whole source, answers its lines and writes the answers, and says the status.
 fn run<S: Source, K: Sink>(alloc: Global, server: &mut Server, source: &mut S, sink: &mut K) -> u8
     requires serving { IsServing server.old }
     requires unfed { transcript_of server.old.transcript ≡ [] }
@@ -102,7 +102,7 @@ fn run<S: Source, K: Sink>(alloc: Global, server: &mut Server, source: &mut S, s
     }
 }
 
-/// Reads the whole source, answers its lines and writes the answers. At a fault of the source nothing is written.
+/// ReadsBytes the whole source, answers its lines and writes the answers. At a fault of the source nothing is written.
 pub(crate) fn serve<S: Source, K: Sink>(alloc: Global, source: &mut S, sink: &mut K) -> (u8, Kept)
     ensures serializable { Serializable (transcript_of result.1.transcript) (entries result.1.history) }
     ensures open_replies { OpenRepliesAgree (transcript_of result.1.transcript) (entries result.1.history) }

@@ -1,6 +1,6 @@
 use Rattle.std.proofs.Common.{◌≡◌, ◌+◌, take}
 use Rattle.cl_types.specs.GrowingList.{items}
-use Rattle.cl_log.specs.Entry.{numbered}
+use Rattle.cl_log.specs.LogEntry.{numbered}
 use Rattle.cl_log.specs.Open.{chain_of}
 use Rattle.cl_log.proofs.scans.chain_of.Given as goal
 

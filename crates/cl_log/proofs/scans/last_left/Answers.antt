@@ -1,7 +1,7 @@
 use Rattle.std.proofs.Common.{◌≡◌, ◌+◌, ◌-◌, length, not, ◌&&◌, ◌∙◌, sym, ap, arith}
 use Rattle.std.specs.List.{filter}
 use Rattle.std.proofs.lemmas.List.{drop_all}
-use Rattle.cl_log.specs.Entry.{numbered}
+use Rattle.cl_log.specs.LogEntry.{numbered}
 use Rattle.cl_log.specs.Kind.{is_of, can_be_undone}
 use Rattle.cl_log.specs.Rest.{is_left_of}
 use Rattle.cl_log.proofs.Numbered.{length-numbered}

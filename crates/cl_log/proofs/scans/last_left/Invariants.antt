@@ -1,6 +1,6 @@
 use Rattle.std.proofs.Common.{◌≡◌, ◌≤◌, length, [], drop}
 use Rattle.std.specs.List.{filter}
-use Rattle.cl_log.specs.Entry.{numbered}
+use Rattle.cl_log.specs.LogEntry.{numbered}
 use Rattle.cl_log.specs.Rest.{is_left_of}
 use Rattle.cl_log.proofs.scans.last_left.Given as goal
 

@@ -3,7 +3,7 @@ use Rattle.std.specs.List.{filter}
 use Rattle.std.proofs.lemmas.Bool.{and_left, and_right, not_from_true}
 use Rattle.std.proofs.lemmas.List.{take_all}
 use Rattle.cl_types.specs.GrowingList.{items}
-use Rattle.cl_log.specs.Entry.{numbered}
+use Rattle.cl_log.specs.LogEntry.{numbered}
 use Rattle.cl_log.specs.Open.{is_open, is_among, txns_of, unended_of}
 use Rattle.cl_log.proofs.Open.{open_pushed, open_kept}
 use Rattle.cl_log.proofs.scans.open_txns.Goals as goal

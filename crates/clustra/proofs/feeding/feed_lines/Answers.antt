@@ -18,7 +18,7 @@ pub loop-rest-preserved : goal.loop-rest-preserved
 loop-rest-preserved c = record {
   serving = c.feed.ensures.serving;
   so_far = FedSoFar-more _ _ c.loop-rest.number _ c.first_line.result.0.now _ _ c.in_ok-feed.ensures.fed.0 c.loop-rest.invariant.so_far c.first_line.ensures.line
-      (c.in_ok-feed.ensures.fed.1 ∙ ap (λ text. (transcript_of c.loop-rest.server.transcript ++ fed (c.loop-rest.number + 1) text ∷ []) ++ written c.in_ok-feed.ensures.fed.0 ∷ []) c.kept.ensures);
+      (c.in_ok-feed.ensures.fed.1 ∙ ap (λ text. (transcript_of c.loop-rest.server.transcript ++ fed (c.loop-rest.number + 1) text ∷ []) ++ written c.in_ok-feed.ensures.fed.0 ∷ []) c.shortened.ensures);
   few = omega (arith, c.feed.ensures.begun, c.loop-rest.invariant.few);
   bytes_left = omega (arith, c.first_line.ensures.shorter, c.loop-rest.invariant.bytes_left);
 }

@@ -2,7 +2,7 @@
 use Rattle.std.proofs.Common.{◌≡◌, ◌∙◌, ℕ, List, take, ap, sym, arith}
 use Rattle.std.proofs.lemmas.List.{take_at, length-take}
 use Rattle.std.specs.Io.KnownBytes.{prepend_known}
-use Rattle.clustra.proofs.Inputs.{ReadSoFar-start, ReadSoFar-more, Reads-refused, Reads-nothing}
+use Rattle.clustra.proofs.Inputs.{ReadSoFar-start, ReadSoFar-more, ReadsBytes-refused, ReadsBytes-nothing}
 use Rattle.clustra.proofs.input.read_input.Goals as goal
 
 pub pieces-init : goal.pieces-init
@@ -14,7 +14,7 @@ pieces-init g c = record {
 }
 
 pub returns-in_default-clause-reads : goal.returns-in_default-clause-reads
-returns-in_default-clause-reads g c = Reads-nothing _ _
+returns-in_default-clause-reads g c = ReadsBytes-nothing _ _
 
 pub pieces-preserved : goal.pieces-preserved
 pieces-preserved g c =
@@ -34,7 +34,7 @@ returns-in-Err-clause-reads g c =
     let piece : List ℕ = take c.in-Ok-read_piece.count c.deref.result.now in
     let filled : piece ≡ take c.in-Ok-read_piece.count c.read_piece.new.buffer =
     ap (take c.in-Ok-read_piece.count) (c.deref.ensures.value ∙ take_at _ _ _ (c.read_piece.auto.buffer ∙ c.deref_mut.ensures.len)) in
-    Reads-refused _ _ _ _ c.pieces.newlines c.pieces.bytes.items piece c.add_piece.new.bytes.items c.in-Err.fault c.pieces.invariant.so_far
+    ReadsBytes-refused _ _ _ _ c.pieces.newlines c.pieces.bytes.items piece c.add_piece.new.bytes.items c.in-Err.fault c.pieces.invariant.so_far
     (c.in-Ok-read_piece.ensures.taken ∙ ap (λ list. prepend_known list (g.S.Source.left c.read_piece.new.source)) (sym filled)) c.in-Err.ensures.adds
     (let size = length-take c.in-Ok-read_piece.count c.deref.result.now in
     omega (arith, size, c.in-Ok-read_piece.ensures.within, c.pieces.invariant.few_bytes))

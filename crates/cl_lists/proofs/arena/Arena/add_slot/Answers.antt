@@ -1,7 +1,7 @@
 use Rattle.std.proofs.Common.{refl, ap, ◌∙◌}
 use Rattle.std.proofs.lemmas.Grind.{merely}
 use Rattle.cl_lists.specs.declared.slots.Side.TheVariants.{X, Y}
-use Rattle.cl_lists.specs.Arena.{spare_slots}
+use Rattle.cl_lists.specs.Arena.{free_slots}
 use Rattle.cl_lists.specs.Entries.{free_count}
 use Rattle.cl_lists.proofs.ArenaChanges.{IsUnchanged-same, IsSide-added, is_free_list-added, free_counted-added, items_kept-added, IsUnchanged-added, free_count-after_added, OnErr-always}
 use Rattle.cl_lists.proofs.arena.Arena.add_slot.Goals as goal
@@ -10,7 +10,7 @@ pub returns-in_err-add_free-clause-same : goal.returns-in_err-add_free-clause-sa
 returns-in_err-add_free-clause-same g c = IsUnchanged-same c.args.self.now _ c.in_err-add_free.ensures.err refl refl
 
 pub returns-in_err-add_free-clause-err : goal.returns-in_err-add_free-clause-err
-unfolding spare_slots
+unfolding free_slots
 returns-in_err-add_free-clause-err g c = OnErr-always c.from_residual.result (ap free_count c.in_err-add_free.ensures.err)
 
 pub invariant_of-self-2-clause-x_linked : goal.invariant_of-self-2-clause-x_linked
@@ -35,5 +35,5 @@ returns-clause-same g c = IsUnchanged-added c.args.self.now _
     (items_kept-added c.args.self.now c.add_free.new.slots.items c.in_ok-add_free.ensures.links c.in_ok-add_free.ensures.contents)
 
 pub returns-clause-ok : goal.returns-clause-ok
-unfolding spare_slots
+unfolding free_slots
 returns-clause-ok g c = free_count-after_added c.args.self.now c.add_free.new.slots.items c.in_ok-add_free.ensures.links c.in_ok-add_free.ensures.contents

@@ -1,7 +1,7 @@
 use Rattle.std.proofs.Common.{None, get_or, refl, ap}
 use Rattle.std.proofs.lemmas.Grind.{merely}
 use Rattle.cl_lists.specs.declared.slots.Side.TheVariants.{X, Y}
-use Rattle.cl_lists.specs.Arena.{lists_on, item_at, spare_slots}
+use Rattle.cl_lists.specs.Arena.{lists_on, item_at, free_slots}
 use Rattle.cl_lists.specs.Entries.{items, free_count}
 use Rattle.cl_lists.specs.FreeList.{is_free_list}
 use Rattle.cl_lists.proofs.SideFacts.{AreLinked-none, lists_on_side-none}
@@ -29,6 +29,6 @@ pub returns-clause-items : goal.returns-clause-items
 unfolding item_at
 returns-clause-items g c = λ slot. ap (λ slots. get_or (items slots) slot None) c.new.ensures.items
 
-pub returns-clause-spare : goal.returns-clause-spare
-unfolding spare_slots
-returns-clause-spare g c = ap free_count c.new.ensures.items
+pub returns-clause-room : goal.returns-clause-room
+unfolding free_slots
+returns-clause-room g c = ap free_count c.new.ensures.items

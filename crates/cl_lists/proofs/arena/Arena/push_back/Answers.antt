@@ -2,16 +2,16 @@ use Rattle.std.proofs.Common.{refl, ◌∙◌, arith}
 use Rattle.std.proofs.lemmas.Grind.{merely}
 use Rattle.cl_lists.specs.declared.slots.Side.TheVariants.{X, Y}
 use Rattle.cl_lists.specs.declared.slots.Content.TheVariants.{Item}
-use Rattle.cl_lists.specs.Arena.{spare_slots, lists_on}
+use Rattle.cl_lists.specs.Arena.{free_slots, lists_on}
 use Rattle.cl_lists.proofs.ArenaFacts.{are_linked, list_count-is, unused-item_at}
-use Rattle.cl_lists.proofs.ArenaChanges.{first_free-none, is_free-first, inside-first, unused-first, spare_slots-is, contents-filled, is_free_list-filled, free_counted-filled, free_count-after_filled, Updates-written}
+use Rattle.cl_lists.proofs.ArenaChanges.{first_free-none, is_free-first, inside-first, unused-first, free_slots-is, contents-filled, is_free_list-filled, free_counted-filled, free_count-after_filled, Updates-written}
 use Rattle.cl_lists.proofs.ArenaLaws.{list_count-pushed}
 use Rattle.cl_lists.proofs.SideFacts.{few-with_items, AreLinked-with_items, lists_on_side-with_items}
 use Rattle.cl_lists.proofs.arena.Arena.push_back.Goals as goal
 
 pub unreachable-requires : goal.unreachable-requires
 unreachable-requires g c =
-    omega (arith, first_free-none c.args.self.now c.in_default.is, spare_slots-is c.args.self.now, c.requires.room)
+    omega (arith, first_free-none c.args.self.now c.in_default.is, free_slots-is c.args.self.now, c.requires.room)
 
 pub insert-self-requires-clause-x_linked : goal.insert-self-requires-clause-x_linked
 insert-self-requires-clause-x_linked g c = rw (c.deref_mut.ensures.value, c.deref_mut-2.ensures.value) (are_linked c.args.self.now X)
@@ -29,7 +29,7 @@ pub insert-self-requires-clause-is_free : goal.insert-self-requires-clause-is_fr
 insert-self-requires-clause-is_free g c = rw c.deref_mut.ensures.value (is_free-first c.args.self.now c.in-Some.slot c.in-Some.is)
 
 pub overflow_sub-self : goal.overflow_sub-self
-overflow_sub-self g c = omega (arith, spare_slots-is c.args.self.now, c.requires.room)
+overflow_sub-self g c = omega (arith, free_slots-is c.args.self.now, c.requires.room)
 
 pub invariant_of-self : goal.invariant_of-self
 invariant_of-self g c =
@@ -45,9 +45,9 @@ invariant_of-self g c =
       free_counted = free_counted-filled c.args.self.now c.in-Some.slot c.in-Some.is c.deref_mut.result.now c.insert-self.new.slots c.args.item c.deref_mut.ensures.value fits c.insert-self.ensures.contents;
     }
 
-pub returns-clause-spare : goal.returns-clause-spare
-unfolding spare_slots
-returns-clause-spare g c =
+pub returns-clause-room : goal.returns-clause-room
+unfolding free_slots
+returns-clause-room g c =
     free_count-after_filled c.args.self.now c.in-Some.slot c.in-Some.is c.deref_mut.result.now c.insert-self.new.slots c.args.item c.deref_mut.ensures.value (c.insert-self.auto.slots ∙ c.deref_mut.ensures.len) c.insert-self.ensures.contents
 
 pub returns-clause-pushes : goal.returns-clause-pushes

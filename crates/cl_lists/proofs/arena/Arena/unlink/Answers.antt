@@ -2,7 +2,7 @@ use Rattle.std.proofs.Common.{None, get_or, refl, sym, ap, ◌∙◌}
 use Rattle.std.proofs.lemmas.Grind.{merely}
 use Rattle.cl_lists.specs.declared.slots.Side.TheVariants.{X, Y}
 use Rattle.cl_lists.specs.declared.slots.Content.TheVariants.{Free}
-use Rattle.cl_lists.specs.Arena.{item_at, spare_slots, lists_on}
+use Rattle.cl_lists.specs.Arena.{item_at, free_slots, lists_on}
 use Rattle.cl_lists.specs.Entries.{items}
 use Rattle.cl_lists.proofs.ArenaFacts.{are_linked, used-in_use, inside-in_use}
 use Rattle.cl_lists.proofs.ArenaChanges.{contents-freed, is_free_list-freed, free_counted-freed, free_count-after_freed, Updates-written}
@@ -33,9 +33,9 @@ invariant_of-self g c =
       free_counted = free_counted-freed c.args.self.now c.args.slot c.requires c.deref_mut.result.now c.extract-item.new.slots c.deref_mut.ensures.value fits c.extract-item.ensures.contents;
     }
 
-pub returns-clause-spare : goal.returns-clause-spare
-unfolding spare_slots
-returns-clause-spare g c =
+pub returns-clause-room : goal.returns-clause-room
+unfolding free_slots
+returns-clause-room g c =
     free_count-after_freed c.args.self.now c.args.slot c.requires c.deref_mut.result.now c.extract-item.new.slots c.deref_mut.ensures.value (c.extract-item.auto.slots ∙ c.deref_mut.ensures.len) c.extract-item.ensures.contents
 
 pub returns-clause-unlinks : goal.returns-clause-unlinks

@@ -9,4 +9,4 @@ pub invariant_of-self-clause-compatible : goal.invariant_of-self-clause-compatib
 invariant_of-self-clause-compatible c = compatible-unlinked c.args.self.now.granted c.unlink.new.self c.args.slot c.unlink.result c.unlink.ensures.unlinks c.args.self.now.listed c.args.self.now.compatible
 
 pub returns-clause-room : goal.returns-clause-room
-returns-clause-room c = HasRoomFor-unlinked c.args.self.now.granted c.unlink.new.self c.args.slot c.unlink.result c.unlink.ensures.unlinks c.args.self.now.listed c.unlink.ensures.spare
+returns-clause-room c = HasRoomFor-unlinked c.args.self.now.granted c.unlink.new.self c.args.slot c.unlink.result c.unlink.ensures.unlinks c.args.self.now.listed c.unlink.ensures.room

@@ -1,7 +1,7 @@
 use Rattle.std.proofs.Common.{[], ◌∷◌, ◌++◌, ◌∙◌, sym, ap}
 use Rattle.cl_types.specs.GrowingList.{items}
 use Rattle.cl_log.specs.Log.{entries, next_number}
-use Rattle.cl_log.specs.Entry.{Entry, numbered}
+use Rattle.cl_log.specs.LogEntry.{LogEntry, numbered}
 use Rattle.cl_log.proofs.Numbered.{numbered_push}
 use Rattle.cl_log.proofs.log.Log.append.Goals as goal
 
@@ -11,4 +11,4 @@ returns-clause-entries c =
     let old = c.args.self.now in
     ap (numbered old.first) c.in-Ok.ensures.ok
     ∙ numbered_push old.first (items old.records) c.args.entry
-    ∙ ap (λ k. numbered old.first (items old.records) ++ (let entry : Entry = record { number = k; content = c.args.entry } in entry) ∷ []) (sym c.next-number.ensures)
+    ∙ ap (λ k. numbered old.first (items old.records) ++ (let entry : LogEntry = record { number = k; content = c.args.entry } in entry) ∷ []) (sym c.next-number.ensures)

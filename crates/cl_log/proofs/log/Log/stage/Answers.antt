@@ -1,7 +1,7 @@
 use Rattle.std.proofs.Common.{◌∙◌, ap}
 use Rattle.cl_types.specs.GrowingList.{items}
 use Rattle.cl_log.specs.Log.{entries}
-use Rattle.cl_log.specs.Entry.{numbered}
+use Rattle.cl_log.specs.LogEntry.{numbered}
 use Rattle.cl_log.specs.Open.{stage_of}
 use Rattle.cl_log.proofs.Open.{stage_of-renumbered}
 use Rattle.cl_log.proofs.log.Log.stage.Goals as goal

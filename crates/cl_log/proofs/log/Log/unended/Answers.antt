@@ -2,7 +2,7 @@ use Rattle.std.proofs.Common.{◌≡◌, ◌∙◌, ap}
 use Rattle.std.proofs.lemmas.Result.{IfOk-weaker}
 use Rattle.cl_types.specs.GrowingList.{items}
 use Rattle.cl_log.specs.Log.{entries}
-use Rattle.cl_log.specs.Entry.{numbered}
+use Rattle.cl_log.specs.LogEntry.{numbered}
 use Rattle.cl_log.specs.Open.{unended_of}
 use Rattle.cl_log.proofs.Open.{unended_of-renumbered}
 use Rattle.cl_log.proofs.log.Log.unended.Goals as goal

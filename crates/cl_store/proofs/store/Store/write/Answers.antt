@@ -4,7 +4,7 @@ use Rattle.cl_types.specs.Places.{Place, Stored, same_place}
 use Rattle.cl_store.specs.Items.{place_of, stored_at, IsInScanOrder}
 use Rattle.cl_store.specs.Entries.{items_of}
 use Rattle.cl_store.specs.Search.{IsFoundAt, BelongsAt}
-use Rattle.cl_store.specs.Store.{records, spare, stored}
+use Rattle.cl_store.specs.Store.{records, room, stored}
 use Rattle.cl_store.proofs.Found.{stored_at-absent}
 use Rattle.cl_store.proofs.Splits.{said}
 use Rattle.cl_store.proofs.Writes.{IsInScanOrder-overwritten, stored_at-overwritten, IsInScanOrder-inserted, stored_at-inserted}
@@ -42,7 +42,7 @@ invariant_of-self-in-Err c =
     }
 
 pub unreachable-requires : goal.unreachable-requires
-unfolding records spare
+unfolding records room
 unreachable-requires c =
     let place : Place = (c.args.table.now, c.args.key.now) in
     let belongs = subst (λ entries. BelongsAt (items_of entries) place c.in-Err.at) c.deref.ensures.value c.in-Err.ensures.absent in
@@ -60,9 +60,9 @@ returns-in-Ok-insert-clause-stored c other =
     ∙ stored_at-inserted store.entries.items place c.in-Err.at belongs c.new.result at_place other
     ∙ ap (λ item. cond (same_place place other) (said item) (stored store other)) c.new.ensures
 
-pub returns-in-Ok-insert-clause-kept : goal.returns-in-Ok-insert-clause-kept
+pub returns-in-Ok-insert-clause-keeps_room : goal.returns-in-Ok-insert-clause-keeps_room
 unfolding records
-returns-in-Ok-insert-clause-kept c some =
+returns-in-Ok-insert-clause-keeps_room c some =
     let place : Place = (c.args.table.now, c.args.key.now) in
     let belongs = subst (λ entries. BelongsAt (items_of entries) place c.in-Err.at) c.deref.ensures.value c.in-Err.ensures.absent in
     let never = ap (λ (s : Stored). s.0) (stored_at-absent (items_of c.args.self.now.entries.items) place c.in-Err.at belongs) in

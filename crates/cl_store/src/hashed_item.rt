@@ -8,22 +8,22 @@ use std::cmp::Ordering;
 
 // A record with the hash of its key, so that a search computes no hash but the one that it looks for.
 #[derive(Debug, Drop)]
-pub(crate) struct Entry {
+pub(crate) struct HashedItem {
     hash: u32,
     pub(crate) item: Item,
     ghost hashed: { hash ≡ hash_of item.key },
     ghost written: { 1 ≤ item.number },
 }
 
-impl Entry {
+impl HashedItem {
     ghost use Rattle.cl_store.specs.ScanOrder.{scan_order};
     ghost use Rattle.cl_store.specs.Items.{place_of};
 
-    pub(crate) fn new(item: Item) -> Entry
+    pub(crate) fn new(item: Item) -> HashedItem
         requires { 1 ≤ item.number }
         ensures { result.item ≡ item }
     {
-        Entry {
+        HashedItem {
             hash: hash(&item.key),
             item,
         }

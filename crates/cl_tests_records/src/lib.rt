@@ -1,0 +1,13 @@
+//! Tests of locks, stores, logs, redo and packets through their public calls, a module for each crate.
+#![tactic(auto)]
+
+#[cfg(test)]
+mod locks;
+#[cfg(test)]
+mod log;
+#[cfg(test)]
+mod redo;
+#[cfg(test)]
+mod store;
+#[cfg(test)]
+mod wire;

@@ -1,0 +1,7 @@
+//! The limits of sessions and transactions, which several crates share.
+
+/// The most sessions: they are numbered from 1 to this.
+pub const SESSIONS_MAX: u32 = 64;
+
+/// The most operations of a transaction, not counting those that are refused because it is full.
+pub const OPERATIONS_MAX: u32 = 64;
