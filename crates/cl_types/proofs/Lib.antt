@@ -3,4 +3,5 @@ pub mod Digits
 pub mod Modes
 pub mod PlacementLaws
 pub mod Places
+pub mod Strength
 pub mod Transactions

@@ -25,6 +25,6 @@ pub use growing_list::{GrowingList, Text};
 pub use limits::{OPERATIONS_MAX, SESSIONS_MAX};
 pub use names::{KEY_MAX, Key, TABLE_NAME_MAX, TableName};
 pub use no_memory::NoMemory;
-pub use operations::{Command, Mode, Op, TxnId};
+pub use operations::{Command, Mode, Op, TxnId, modes_law};
 pub use placement::{fragment, hash, is_node_count, placement_law, vnode_of};
 pub use value::{VALUE_MAX, Value, copy_value};

@@ -1,7 +1,9 @@
 //! What a client asks: transactions, operations and commands.
+ghost use Rattle.cl_types.specs.Modes.{StrongerIsStrongest, StrongerIsMonotone, StrongerConflictsMore, ConflictIsSymmetric};
+
 use crate::{Key, TableName, Value};
 
-/// The name of a transaction: the accepted BEGIN of that number, counted from 1, in a session.
+/// The name of a transaction: its session, and the number of its accepted BEGIN there, from 1.
 #[derive(Clone, Copy, Debug, PartialEq, Eq, PartialOrd, Ord, Hash)]
 pub struct TxnId {
     pub session: u32,
@@ -33,3 +35,11 @@ pub enum Command {
     Commit,
     Abort,
 }
+
+/// A stronger lock conflicts with all that a weaker one conflicts with.
+pub fn modes_law()
+    ensures stronger { StrongerIsStrongest }
+    ensures monotone { StrongerIsMonotone }
+    ensures conflicts { StrongerConflictsMore }
+    ensures symmetric { ConflictIsSymmetric }
+{}
