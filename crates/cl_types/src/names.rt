@@ -1,4 +1,4 @@
-//! The names of tables and keys. They hold their bytes themselves, so copying one takes no memory.
+//! The names of tables and keys. Each holds its bytes in place, so a copy allocates nothing.
 ghost use Rattle.std.specs.Prelude.{◌≡◌, ◌≤◌, length, Some, None, if◌then◌else◌};
 ghost use Rattle.std.specs.List.{list_all};
 ghost use Rattle.std.specs.Char.{is_ascii_lowercase};
@@ -16,7 +16,7 @@ pub const KEY_MAX: usize = 32;
 /// A table's name: 1 to 8 letters `a` to `z`. Contracts see the list of its bytes.
 #[derive(Debug, PartialEq, Eq, PartialOrd, Ord, Hash, Drop)]
 pub struct TableName {
-    bytes: ArrayVec<u8, 8>,
+    bytes: ArrayVec<u8, TABLE_NAME_MAX>,
 }
 
 impl Model for TableName {
@@ -53,7 +53,7 @@ fn are_key_bytes(bytes: &[u8]) -> bool
     bytes.iter().all(|byte| is_key_text_byte(*byte))
 }
 
-// The bytes in an array that has room for them.
+// A copy of the bytes in an array that has room for them.
 fn array_of<const CAP: usize>(bytes: &[u8]) -> ArrayVec<u8, CAP>
     requires { length bytes.now ≤ CAP }
     ensures { result.items ≡ bytes.now }
@@ -66,7 +66,7 @@ fn array_of<const CAP: usize>(bytes: &[u8]) -> ArrayVec<u8, CAP>
 }
 
 impl TableName {
-    /// The table's name that the bytes are, or `None` where they are not 1 to 8 letters `a` to `z`.
+    /// Reads a table's name. `None` where the bytes are not 1 to 8 letters `a` to `z`.
     pub fn read(bytes: &[u8]) -> Option<TableName>
         ensures { result ≡ (if is_table_name bytes.now then Some bytes.now else None) }
     {
@@ -78,7 +78,7 @@ impl TableName {
         })
     }
 
-    /// The same name. It takes no memory.
+    /// A copy of the name. It allocates nothing.
     pub fn copy(&self) -> TableName
         ensures { result ≡ self.now }
     {
@@ -98,7 +98,7 @@ impl TableName {
 /// A key: 1 to 32 bytes of `a` to `z`, `0` to `9`, `_`, `.` and `-`. Contracts see the list of its bytes.
 #[derive(Debug, PartialEq, Eq, PartialOrd, Ord, Hash, Drop)]
 pub struct Key {
-    bytes: ArrayVec<u8, 32>,
+    bytes: ArrayVec<u8, KEY_MAX>,
 }
 
 impl Model for Key {
@@ -115,7 +115,7 @@ impl Model for Key {
 }
 
 impl Key {
-    /// The key that the bytes are, or `None` where they are not 1 to 32 bytes that a key may have.
+    /// Reads a key. `None` where the bytes are not 1 to 32 bytes that may stand in a key.
     pub fn read(bytes: &[u8]) -> Option<Key>
         ensures { result ≡ (if is_key bytes.now then Some bytes.now else None) }
     {
@@ -127,7 +127,7 @@ impl Key {
         })
     }
 
-    /// The same key. It takes no memory.
+    /// A copy of the key. It allocates nothing.
     pub fn copy(&self) -> Key
         ensures { result ≡ self.now }
     {
