@@ -1,4 +1,4 @@
-//! The words that every crate of the server shares: lists, names, values, operations and their answers.
+//! The types that every crate of the server shares: lists, names, values, operations and answers.
 #![tactic(auto)]
 
 mod answers;
@@ -11,8 +11,6 @@ mod names;
 mod no_memory;
 mod operations;
 mod placement;
-#[cfg(test)]
-mod tests;
 mod value;
 
 pub use answers::{AbortCause, Answer, DumpFault, Outcome, Refused, RepairFault, Reply, StopFault};
