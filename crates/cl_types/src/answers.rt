@@ -1,4 +1,4 @@
-//! What is answered: to operations, to commands, and where something is refused.
+//! The answers to operations, commands and requests, and why a request is refused.
 use crate::{TxnId, Value};
 
 /// The reply to an operation that was done.
@@ -7,9 +7,9 @@ pub enum Reply {
     Stored,
     Found(Value),
     Absent,
-    /// The sum that an addition left.
+    /// The sum after an addition.
     Sum(i64),
-    /// The record's value is no number.
+    /// The record's value is not a number.
     NotNumber,
     /// The sum is outside signed 64 bits.
     OutOfRange,
@@ -19,7 +19,7 @@ pub enum Reply {
 #[derive(Debug, PartialEq, Eq, Drop)]
 pub enum Answer {
     Done(Reply),
-    /// Another transaction holds a lock in conflict.
+    /// Another transaction holds a conflicting lock.
     Refused(TxnId),
     NoMemory,
 }
@@ -27,7 +27,7 @@ pub enum Answer {
 /// Why a transaction was aborted.
 #[derive(Clone, Copy, Debug, PartialEq, Eq)]
 pub enum AbortCause {
-    /// The transaction holds a lock in conflict.
+    /// The other transaction holds a conflicting lock.
     Conflict(TxnId),
     /// The node stopped.
     Node(u32),
@@ -46,7 +46,7 @@ pub enum Outcome {
     NotTxn,
     /// BEGIN in a transaction.
     InTxn,
-    /// An operation in a transaction that has its most operations.
+    /// An operation in a transaction that has `OPERATIONS_MAX` operations already.
     Full,
 }
 
@@ -87,6 +87,6 @@ pub enum DumpFault {
 #[derive(Clone, Copy, Debug, PartialEq, Eq)]
 pub enum Refused {
     NoMemory,
-    /// A number is at its end.
+    /// A counter is at its last value.
     Spent,
 }

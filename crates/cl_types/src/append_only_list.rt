@@ -1,4 +1,4 @@
-//! The list that only grows: what stands in it is never taken off.
+//! The list that only grows: its entries are never removed.
 ghost use Rattle.std.specs.Prelude.{◌≡◌, ◌+◌, ◌≤◌, ◌↔◌, [], ◌∷◌, ◌++◌, length, IsTrue, IsOk, OnOk, OnErr, slice_get};
 ghost use Rattle.std.specs.Option.{option_copied};
 ghost use Rattle.cl_types.specs.AppendOnlyList.{entries, room};
@@ -6,16 +6,16 @@ ghost use Rattle.cl_types.specs.AppendOnlyList.{entries, room};
 use crate::{GrowingList, NoMemory};
 use std::alloc::Global;
 
-/// A list that grows at its end and never shrinks.
+/// A list to which entries are appended, and from which none is removed.
 ///
-/// Contracts see its entries, first to last, and `room`: for how many more entries there is room.
+/// Contracts see its entries, first to last, and `room`: how many more entries fit without an allocation.
 #[derive(Debug, Drop)]
 pub struct AppendOnlyList<T> {
     list: GrowingList<T>,
 }
 
 impl<T> AppendOnlyList<T> {
-    /// An empty list. It takes no memory.
+    /// An empty list. It allocates nothing.
     pub fn new(alloc: Global) -> Self
         ensures { entries result ≡ [] }
     {
@@ -24,7 +24,7 @@ impl<T> AppendOnlyList<T> {
         }
     }
 
-    /// Makes room for `count` more entries. What is in the list stays, whatever the answer.
+    /// Makes room for `count` more entries. The entries stay as they are, also after an error.
     pub fn reserve(&mut self, count: usize) -> Result<(), NoMemory>
         ensures entries { entries self.new ≡ entries self.old }
         ensures ok { OnOk result (count ≤ room self.new) }
@@ -34,7 +34,7 @@ impl<T> AppendOnlyList<T> {
         self.list.reserve(count)
     }
 
-    /// Adds an entry at the end. With room it takes no memory; a refused entry is dropped.
+    /// Appends an entry. It allocates only where there is no room. After an error the entry is dropped.
     pub fn push(&mut self, entry: T) -> Result<(), NoMemory>
     where
         T: Drop,
@@ -46,7 +46,7 @@ impl<T> AppendOnlyList<T> {
         self.list.push(entry)
     }
 
-    /// Adds an entry at the end, where there is room for it. It takes no memory.
+    /// Appends an entry where there is room. It allocates nothing, so it cannot fail.
     pub fn push_reserved(&mut self, entry: T)
         requires { 1 ≤ room self.old }
         ensures entries { entries self.new ≡ entries self.old ++ entry ∷ [] }
@@ -55,25 +55,25 @@ impl<T> AppendOnlyList<T> {
         self.list.push_reserved(entry);
     }
 
-    /// How many entries there are.
+    /// The number of entries.
     pub fn len(&self) -> usize
         ensures { result ≡ length (entries self.now) }
     {
         self.list.len()
     }
 
-    /// Whether there is no entry.
+    /// Whether the list is empty.
     pub fn is_empty(&self) -> bool
         ensures { IsTrue result ↔ (entries self.now ≡ []) }
     {
         self.list.is_empty()
     }
 
-    /// The entry at a place, counted from 0, or `None` past the end.
-    pub fn at(&self, place: usize) -> Option<&T>
-        ensures { option_copied result ≡ slice_get (entries self.now) place }
+    /// The entry at an index, counted from 0, or `None` past the end.
+    pub fn at(&self, index: usize) -> Option<&T>
+        ensures { option_copied result ≡ slice_get (entries self.now) index }
     {
-        self.list.at(place)
+        self.list.at(index)
     }
 
     /// The entries, first to last.

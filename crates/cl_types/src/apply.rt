@@ -1,4 +1,4 @@
-//! An operation on the value at one place.
+//! Operations on the value of one record.
 ghost use Rattle.std.specs.Prelude.{◌≡◌, IfOk};
 ghost use Rattle.std.specs.Option.{option_copied};
 ghost use Rattle.cl_types.specs.Plain.{plain_reply, plain_value, augend};
@@ -26,8 +26,8 @@ fn reply_of_delete(value: Option<&Value>) -> Reply
     }
 }
 
-/// The number that an addition or a subtraction begins with: 0 where there is no value, and `None`
-/// where the value is no number.
+/// The number that an addition starts from: 0 where there is no value, and `None` where the value
+/// is not a number.
 pub fn augend_of(old: Option<&Value>) -> Option<i64>
     ensures { result ≡ augend (option_copied old.entry) }
 {
@@ -51,7 +51,8 @@ fn add(alloc: Global, amount: i64, old: Option<&Value>) -> Result<(Reply, Option
     }
 }
 
-/// Does an operation on the value at its place, absent or there: the reply, and the value after it.
+/// Applies an operation to the value of a record, if it has one. Returns the reply and the value
+/// after the operation.
 pub fn apply_op(
     alloc: Global,
     op: &Op,

@@ -52,7 +52,8 @@ fn value_of(digits: &[u8]) -> Option<u64>
     Some(number)
 }
 
-/// The number below 2^64 that a text writes as `0`, or a digit `1` to `9`, and digits.
+/// Reads a number without a sign in canonical decimal: `0`, or a digit `1` to `9` and more digits.
+/// `None` where the text is not canonical, or the number is not below 2^64.
 pub fn natural_of(bytes: &[u8]) -> Option<u64>
     ensures { result ≡ natural_64 bytes.now }
 {
@@ -85,7 +86,8 @@ fn nonnegative_of(bytes: &[u8]) -> Option<i64>
     }
 }
 
-/// The number that a text writes in canonical decimal, or `None` where it is no such text or its number is outside signed 64 bits.
+/// Reads a number in canonical decimal. `None` where the text is not canonical, or the number is
+/// outside signed 64 bits.
 pub fn number_of_text(bytes: &[u8]) -> Option<i64>
     ensures { result ≡ number bytes.now }
 {
@@ -97,21 +99,23 @@ pub fn number_of_text(bytes: &[u8]) -> Option<i64>
     }
 }
 
-/// The number that a value is, by its bytes.
+/// Reads the bytes of a value as a number in canonical decimal.
 pub fn number_of(value: &Value) -> Option<i64>
     ensures { result ≡ number value.now }
 {
     number_of_text(value.bytes())
 }
 
-/// The printed text of a number is read as that number, and a text that is read as a number is its printed text, which may stand as a value.
+/// A printed number is read as that number, and may stand as a value. A text that is read as a
+/// number is that number printed.
 pub fn number_and_text_law()
     ensures printed { PrintedIsRead }
     ensures read { ReadIsPrinted }
     ensures value { PrintedIsValue }
 {}
 
-/// The printed text of a number below 2^64 is read as that number, and a text that is read as a number is its printed text.
+/// A printed number below 2^64 is read as that number. A text that is read as a number is that
+/// number printed.
 pub fn natural_and_text_law()
     ensures printed { NaturalPrintedIsRead }
     ensures read { NaturalReadIsPrinted }

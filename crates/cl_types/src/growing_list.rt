@@ -1,4 +1,4 @@
-//! The one list that grows, on which every named list of the server stands.
+//! The list that every list of the server is built on.
 ghost use Rattle.std.specs.Prelude.{◌≡◌, ◌+◌, ◌≤◌, ◌↔◌, [], ◌∷◌, ◌++◌, length, IsTrue, IsOk, OnOk, OnErr, IfOk, IfNone, IfSome, slice_get};
 ghost use Rattle.std.specs.Option.{option_copied, option_to_list};
 ghost use Rattle.cl_types.specs.GrowingList.{items, room};
@@ -6,19 +6,19 @@ ghost use Rattle.cl_types.specs.GrowingList.{items, room};
 use crate::NoMemory;
 use std::alloc::Global;
 
-/// A list of bytes that grows at its end.
+/// A list of bytes.
 pub type Text = GrowingList<u8>;
 
 /// A list that grows and shrinks at its end.
 ///
-/// Contracts see its items, first to last, and `room`: for how many more items there is room.
+/// Contracts see its items, first to last, and `room`: how many more items fit without an allocation.
 #[derive(Debug, Drop)]
 pub struct GrowingList<T> {
     items: Vec<T>,
 }
 
 impl<T> GrowingList<T> {
-    /// An empty list. It takes no memory.
+    /// An empty list. It allocates nothing.
     pub fn new(alloc: Global) -> Self
         ensures { items result ≡ [] }
     {
@@ -27,7 +27,7 @@ impl<T> GrowingList<T> {
         }
     }
 
-    /// Makes room for `count` more items. What is in the list stays, whatever the answer.
+    /// Makes room for `count` more items. The items stay as they are, also after an error.
     pub fn reserve(&mut self, count: usize) -> Result<(), NoMemory>
         ensures items { items self.new ≡ items self.old }
         ensures ok { OnOk result (count ≤ room self.new) }
@@ -38,7 +38,7 @@ impl<T> GrowingList<T> {
         Ok(())
     }
 
-    /// Adds an item at the end. With room it takes no memory; a refused item is dropped.
+    /// Appends an item. It allocates only where there is no room. After an error the item is dropped.
     pub fn push(&mut self, item: T) -> Result<(), NoMemory>
     where
         T: Drop,
@@ -51,7 +51,7 @@ impl<T> GrowingList<T> {
         Ok(())
     }
 
-    /// Adds an item at the end, where there is room for it. It takes no memory.
+    /// Appends an item where there is room. It allocates nothing, so it cannot fail.
     pub fn push_reserved(&mut self, item: T)
         requires { 1 ≤ room self.old }
         ensures items { items self.new ≡ items self.old ++ item ∷ [] }
@@ -60,7 +60,7 @@ impl<T> GrowingList<T> {
         self.items.push_reserved(item);
     }
 
-    /// Takes the last item off. Its room stays.
+    /// Removes the last item. Its room stays reserved.
     pub fn pop(&mut self) -> Option<T>
         ensures items { items self.old ≡ items self.new ++ option_to_list result }
         ensures empty { IfNone result (items self.old ≡ []) }
@@ -70,25 +70,25 @@ impl<T> GrowingList<T> {
         self.items.pop()
     }
 
-    /// How many items there are.
+    /// The number of items.
     pub fn len(&self) -> usize
         ensures { result ≡ length (items self.now) }
     {
         self.items.len()
     }
 
-    /// Whether there is no item.
+    /// Whether the list is empty.
     pub fn is_empty(&self) -> bool
         ensures { IsTrue result ↔ (items self.now ≡ []) }
     {
         self.items.is_empty()
     }
 
-    /// The item at a place, counted from 0, or `None` past the end.
-    pub fn at(&self, place: usize) -> Option<&T>
-        ensures { option_copied result ≡ slice_get (items self.now) place }
+    /// The item at an index, counted from 0, or `None` past the end.
+    pub fn at(&self, index: usize) -> Option<&T>
+        ensures { option_copied result ≡ slice_get (items self.now) index }
     {
-        self.items.get(place)
+        self.items.get(index)
     }
 
     /// The items, first to last.
@@ -100,7 +100,7 @@ impl<T> GrowingList<T> {
 }
 
 impl GrowingList<u8> {
-    /// A text of these bytes.
+    /// A copy of the bytes, as a text.
     pub fn copy_of(alloc: Global, bytes: &[u8]) -> Result<Text, NoMemory>
         ensures { IfOk result (λ text. items text ≡ bytes.now) }
     {

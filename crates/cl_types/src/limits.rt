@@ -1,4 +1,4 @@
-//! The limits of sessions and transactions, which several crates share.
+//! The limits of sessions and transactions, shared by several crates.
 
 /// The most sessions: they are numbered from 1 to this.
 pub const SESSIONS_MAX: u32 = 64;

@@ -46,7 +46,7 @@ impl Eq for Value {
     ghost laws = { nat_list_eq_equiv };
 }
 
-// Whether each byte is printed and no blank.
+// Whether each byte is printable and not a blank.
 fn are_graphic(bytes: &[u8]) -> bool
     ensures { result ≡ list_all is_ascii_graphic bytes.now }
 {
@@ -54,7 +54,7 @@ fn are_graphic(bytes: &[u8]) -> bool
 }
 
 impl Value {
-    /// The value that the bytes are, or `None` where they are not 1 to 128 bytes of hex 21 to 7E.
+    /// Reads a value. `None` where the bytes are not 1 to 128 bytes of hex 21 to 7E.
     pub fn read(alloc: Global, bytes: &[u8]) -> Result<Option<Value>, NoMemory>
         ensures { IfOk result (λ value. value ≡ (if is_value bytes.now then Some bytes.now else None)) }
     {
@@ -65,7 +65,7 @@ impl Value {
         Ok(Some(Value { bytes }))
     }
 
-    /// Another value of the same bytes.
+    /// A copy of the value.
     pub fn copy(&self, alloc: Global) -> Result<Value, NoMemory>
         ensures { IfOk result (λ value. value ≡ self.now) }
     {
@@ -73,7 +73,7 @@ impl Value {
         Ok(Value { bytes })
     }
 
-    /// The value that is the canonical text of a number.
+    /// A number printed in canonical decimal, as a value.
     pub fn of_number(alloc: Global, number: i64) -> Result<Value, NoMemory>
         ensures { IfOk result (λ value. value ≡ signed_decimal number) }
     {
@@ -91,7 +91,7 @@ impl Value {
     }
 }
 
-/// Another value of the same bytes, where there is one.
+/// A copy of the value, if there is one.
 pub fn copy_value(alloc: Global, value: Option<&Value>) -> Result<Option<Value>, NoMemory>
     ensures { IfOk result (λ copied. copied ≡ option_copied value.entry) }
 {
