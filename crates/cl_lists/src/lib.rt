@@ -6,8 +6,6 @@ mod both_sides;
 mod contents;
 mod links;
 mod slots;
-#[cfg(test)]
-mod tests;
 
 pub use arena::Arena;
 pub use slots::{Side, Slot};
