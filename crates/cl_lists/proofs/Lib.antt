@@ -11,7 +11,7 @@ mod LinkRemove
 mod LinkWrites
 mod Linked
 pub mod ListsLaws
-mod Places
+mod Positions
 mod SideFacts
 pub mod SlotListLemmas
 mod Walk

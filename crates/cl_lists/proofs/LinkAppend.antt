@@ -7,11 +7,11 @@ use Rattle.cl_lists.specs.declared.slots.Link.{Link}
 use Rattle.cl_lists.specs.declared.slots.Ends.{Ends}
 use Rattle.cl_lists.specs.SlotList.{has, is_distinct, last_of}
 use Rattle.cl_lists.specs.Lists.{list_at, appended}
-use Rattle.cl_lists.specs.Links.{IsInside, IsPlace, after, before, link_at, ends_at, next_at, prev_at, IsLinked, links_with_next, ends_with_next, ends_with_prev}
-use Rattle.cl_lists.proofs.Linked.{cases_place, IsInside-linked, absent-linked, apart-linked, read_at_each}
+use Rattle.cl_lists.specs.Links.{IsInside, IsPosition, after, before, link_at, ends_at, next_at, prev_at, IsLinked, links_with_next, ends_with_next, ends_with_prev}
+use Rattle.cl_lists.proofs.Linked.{cases_position, IsInside-linked, absent-linked, apart-linked, read_at_each}
 use Rattle.cl_lists.proofs.ListsLaws.{list_at-appended_same, list_at-appended_other, length-appended}
 use Rattle.cl_lists.proofs.LinkWrites.{length-links_with_next, length-ends_with_next, length-ends_with_prev, next_at-with_next, next_at-with_next_other, next_at-with_next_elsewhere, prev_at-with_next, list-with_next, prev_at-with_prev, prev_at-with_prev_other, prev_at-with_prev_elsewhere, next_at-with_prev}
-use Rattle.cl_lists.proofs.Places.{after-push_last, after-push_self, after-push_other, before-push_end, before-push_self, before-push_other, IsPlace-last, IsPlace-push}
+use Rattle.cl_lists.proofs.Positions.{after-push_last, after-push_self, after-push_other, before-push_end, before-push_self, before-push_other, IsPosition-last, IsPosition-push}
 use Rattle.cl_lists.proofs.SlotListLemmas.{has-append, is_distinct-push}
 
 link_at-set_free : (links : List Link) (used : List Bool) (slot : ℕ) (link : Link) (other : ℕ) → get_or used slot false ≡ false → get_or used other false ≡ true → link_at (set links slot link) other ≡ link_at links other
@@ -29,12 +29,12 @@ IsLinked-set_free links ends used lists slot link linked free = record {
   next = next_kept;
   prev = prev_kept;
 } where
-  next_kept : (number : ℕ) (place : Option ℕ) → IsPlace (list_at lists number) place → next_at (set links slot link) ends number place ≡ after (list_at lists number) place
+  next_kept : (number : ℕ) (position : Option ℕ) → IsPosition (list_at lists number) position → next_at (set links slot link) ends number position ≡ after (list_at lists number) position
   next_kept number None there = linked.next number None there
   next_kept number (Some other) there =
       ap (λ l. l.next) (link_at-set_free links used slot link other free (linked.in_use number other there)) ∙ linked.next number (Some other) there
 
-  prev_kept : (number : ℕ) (place : Option ℕ) → IsPlace (list_at lists number) place → prev_at (set links slot link) ends number place ≡ before (list_at lists number) place
+  prev_kept : (number : ℕ) (position : Option ℕ) → IsPosition (list_at lists number) position → prev_at (set links slot link) ends number position ≡ before (list_at lists number) position
   prev_kept number None there = linked.prev number None there
   prev_kept number (Some other) there =
       ap (λ l. l.prev) (link_at-set_free links used slot link other free (linked.in_use number other there)) ∙ linked.prev number (Some other) there
@@ -119,47 +119,47 @@ module _ (links : List Link) (ends : List Ends) (used : List Bool) (lists : List
   ends3 = ends_with_prev ends2 number None (Some slot)
 
   inside_last : IsInside links1 ends number last
-  inside_last = IsInside-linked links1 ends used lists linked1 number last exists (IsPlace-last list)
+  inside_last = IsInside-linked links1 ends used lists linked1 number last exists (IsPosition-last list)
 
-  next_here : (place : Option ℕ) → IsPlace (list ++ slot ∷ []) place → next_at links2 ends2 number place ≡ after (list ++ slot ∷ []) place
-  next_here place there = elim (cases_place place last) [
+  next_here : (position : Option ℕ) → IsPosition (list ++ slot ∷ []) position → next_at links2 ends2 number position ≡ after (list ++ slot ∷ []) position
+  next_here position there = elim (cases_position position last) [
     | inl e ↦ subst (λ p. next_at links2 ends2 number p ≡ after (list ++ slot ∷ []) p) (sym e)
         (next_at-with_next links1 ends number last (Some slot) inside_last ∙ sym (after-push_last list slot distinct (absent number)))
-    | inr outer ↦ next_at-with_next_other links1 ends number last (Some slot) number place outer
-        ∙ elim (cases_place place (Some slot)) [
+    | inr outer ↦ next_at-with_next_other links1 ends number last (Some slot) number position outer
+        ∙ elim (cases_position position (Some slot)) [
           | inl e ↦ subst (λ p. next_at links1 ends number p ≡ after (list ++ slot ∷ []) p) (sym e)
               (ap (λ l. l.next) own ∙ sym (after-push_self list slot distinct (absent number)))
-          | inr apart ↦ linked1.next number place (IsPlace-push list slot place apart there)
-              ∙ sym (after-push_other list slot distinct (absent number) place apart outer)
+          | inr apart ↦ linked1.next number position (IsPosition-push list slot position apart there)
+              ∙ sym (after-push_other list slot distinct (absent number) position apart outer)
         ]
   ]
 
-  next_elsewhere : (other : ℕ) → other ≢ number → (place : Option ℕ) → IsPlace (list_at lists other) place → next_at links2 ends2 other place ≡ after (list_at lists other) place
-  next_elsewhere other differ place there =
-      next_at-with_next_elsewhere links1 ends number last (Some slot) other place differ
-      (apart-linked links1 ends used lists linked1 number other last place differ (IsPlace-last list) there)
-      ∙ linked1.next other place there
+  next_elsewhere : (other : ℕ) → other ≢ number → (position : Option ℕ) → IsPosition (list_at lists other) position → next_at links2 ends2 other position ≡ after (list_at lists other) position
+  next_elsewhere other differ position there =
+      next_at-with_next_elsewhere links1 ends number last (Some slot) other position differ
+      (apart-linked links1 ends used lists linked1 number other last position differ (IsPosition-last list) there)
+      ∙ linked1.next other position there
 
-  prev_here : (place : Option ℕ) → IsPlace (list ++ slot ∷ []) place → prev_at links2 ends3 number place ≡ before (list ++ slot ∷ []) place
-  prev_here place there = elim (cases_place place None) [
+  prev_here : (position : Option ℕ) → IsPosition (list ++ slot ∷ []) position → prev_at links2 ends3 number position ≡ before (list ++ slot ∷ []) position
+  prev_here position there = elim (cases_position position None) [
     | inl e ↦ subst (λ p. prev_at links2 ends3 number p ≡ before (list ++ slot ∷ []) p) (sym e)
         (prev_at-with_prev links2 ends2 number None (Some slot) (subst (λ n. number < n) (sym (length-ends_with_next ends number last (Some slot))) exists)
         ∙ sym (before-push_end list slot distinct (absent number)))
-    | inr inner ↦ prev_at-with_prev_other links2 ends2 number None (Some slot) number place inner
-        ∙ prev_at-with_next links1 ends number last (Some slot) number place
-        ∙ elim (cases_place place (Some slot)) [
+    | inr inner ↦ prev_at-with_prev_other links2 ends2 number None (Some slot) number position inner
+        ∙ prev_at-with_next links1 ends number last (Some slot) number position
+        ∙ elim (cases_position position (Some slot)) [
           | inl e ↦ subst (λ p. prev_at links1 ends number p ≡ before (list ++ slot ∷ []) p) (sym e)
               (ap (λ l. l.prev) own ∙ sym (before-push_self list slot distinct (absent number)))
-          | inr apart ↦ linked1.prev number place (IsPlace-push list slot place apart there)
-              ∙ sym (before-push_other list slot distinct (absent number) place apart inner)
+          | inr apart ↦ linked1.prev number position (IsPosition-push list slot position apart there)
+              ∙ sym (before-push_other list slot distinct (absent number) position apart inner)
         ]
   ]
 
-  prev_elsewhere : (other : ℕ) → other ≢ number → (place : Option ℕ) → IsPlace (list_at lists other) place → prev_at links2 ends3 other place ≡ before (list_at lists other) place
-  prev_elsewhere other differ place there =
-      prev_at-with_prev_elsewhere links2 ends2 number None (Some slot) other place differ (λ s here none. grind (arith, none))
-      ∙ prev_at-with_next links1 ends number last (Some slot) other place
-      ∙ linked1.prev other place there
+  prev_elsewhere : (other : ℕ) → other ≢ number → (position : Option ℕ) → IsPosition (list_at lists other) position → prev_at links2 ends3 other position ≡ before (list_at lists other) position
+  prev_elsewhere other differ position there =
+      prev_at-with_prev_elsewhere links2 ends2 number None (Some slot) other position differ (λ s here none. grind (arith, none))
+      ∙ prev_at-with_next links1 ends number last (Some slot) other position
+      ∙ linked1.prev other position there
 
   exists' : number < length lists
   exists' = subst (λ n. number < n) (sym linked.as_many) exists
@@ -194,11 +194,11 @@ module _ (links : List Link) (ends : List Ends) (used : List Bool) (lists : List
     | inr differ ↦ subst (λ xs. is_distinct xs ≡ true) (sym (list_at-appended_other lists number slot n differ)) (linked.distinct n)
   ]
 
-  next' : (n : ℕ) (place : Option ℕ) → IsPlace (list_at lists' n) place → next_at links2 ends3 n place ≡ after (list_at lists' n) place
-  next' n place there = next_at-with_prev links2 ends2 number None (Some slot) n place ∙ read_at_each lists lists' number _ here (list_at-appended_other lists number slot) (next_at links2 ends2) after next_here next_elsewhere n place there
+  next' : (n : ℕ) (position : Option ℕ) → IsPosition (list_at lists' n) position → next_at links2 ends3 n position ≡ after (list_at lists' n) position
+  next' n position there = next_at-with_prev links2 ends2 number None (Some slot) n position ∙ read_at_each lists lists' number _ here (list_at-appended_other lists number slot) (next_at links2 ends2) after next_here next_elsewhere n position there
 
-  prev' : (n : ℕ) (place : Option ℕ) → IsPlace (list_at lists' n) place → prev_at links2 ends3 n place ≡ before (list_at lists' n) place
-  prev' n place there = read_at_each lists lists' number _ here (list_at-appended_other lists number slot) (prev_at links2 ends3) before prev_here prev_elsewhere n place there
+  prev' : (n : ℕ) (position : Option ℕ) → IsPosition (list_at lists' n) position → prev_at links2 ends3 n position ≡ before (list_at lists' n) position
+  prev' n position there = read_at_each lists lists' number _ here (list_at-appended_other lists number slot) (prev_at links2 ends3) before prev_here prev_elsewhere n position there
 
   linked2 : IsLinked links2 ends3 taken lists'
   linked2 = record {
@@ -230,10 +230,10 @@ module _ (links : List Link) (ends : List Ends) (used : List Bool) (lists : List
   pub IsInside-append : (written : List Link) (link : Link) → written ≡ set links slot link → IsInside written ends number last_read
   IsInside-append written link is_written =
       let linked1 = IsLinked-set_free links ends used lists slot link linked free in
-      let place : IsPlace (list_at lists number) last_read =
-      subst (IsPlace (list_at lists number)) (sym (last_is ∙ linked.prev number None tt)) (IsPlace-last (list_at lists number)) in
+      let position : IsPosition (list_at lists number) last_read =
+      subst (IsPosition (list_at lists number)) (sym (last_is ∙ linked.prev number None tt)) (IsPosition-last (list_at lists number)) in
       subst (λ ls. IsInside ls ends number last_read) (sym is_written)
-      (IsInside-linked (set links slot link) ends used lists linked1 number last_read exists place)
+      (IsInside-linked (set links slot link) ends used lists linked1 number last_read exists position)
 
   pub IsLinked-append : slot < length links → (la lb lc : List Link) (ea eb : List Ends) → la ≡ set links slot (record { prev = last_read; next = None; list = number }) → lb ≡ links_with_next la last_read (Some slot) → lc ≡ lb → ea ≡ ends_with_next ends number last_read (Some slot) → eb ≡ ends_with_prev ea number None (Some slot) → IsLinked lc eb (set used slot true) (appended lists number slot)
   IsLinked-append inside la lb lc ea eb own next same ends_next ends_prev =

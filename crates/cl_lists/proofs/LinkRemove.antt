@@ -6,14 +6,14 @@ use Rattle.cl_lists.specs.declared.slots.Link.{Link}
 use Rattle.cl_lists.specs.declared.slots.Ends.{Ends}
 use Rattle.cl_lists.specs.SlotList.{has, is_distinct, after_in, before_in, without}
 use Rattle.cl_lists.specs.Lists.{list_at, removed}
-use Rattle.cl_lists.specs.Links.{IsInside, IsPlace, after, before, link_at, next_at, prev_at, IsLinked, links_with_next, ends_with_next, links_with_prev, ends_with_prev}
-use Rattle.cl_lists.proofs.Linked.{cases_place, inside-linked, exists-linked, IsInside-linked, apart-linked, read_at_each}
+use Rattle.cl_lists.specs.Links.{IsInside, IsPosition, after, before, link_at, next_at, prev_at, IsLinked, links_with_next, ends_with_next, links_with_prev, ends_with_prev}
+use Rattle.cl_lists.proofs.Linked.{cases_position, inside-linked, exists-linked, IsInside-linked, apart-linked, read_at_each}
 use Rattle.cl_lists.proofs.ListsLaws.{list_at-removed, length-removed}
 use Rattle.cl_lists.proofs.LinkWrites.{length-links_with_next, length-ends_with_next, length-links_with_prev, length-ends_with_prev, next_at-with_next, next_at-with_next_other, next_at-with_next_elsewhere, prev_at-with_next, list-with_next, prev_at-with_prev, prev_at-with_prev_other, prev_at-with_prev_elsewhere, next_at-with_prev, list-with_prev}
-use Rattle.cl_lists.proofs.Places.{after-without_before, after-without_other, before-without_after, before-without_other, IsPlace-without, IsPlace-without_other, IsPlace-before_in, IsPlace-after_in}
+use Rattle.cl_lists.proofs.Positions.{after-without_before, after-without_other, before-without_after, before-without_other, IsPosition-without, IsPosition-without_other, IsPosition-before_in, IsPosition-after_in}
 use Rattle.cl_lists.proofs.SlotListLemmas.{has-without, is_distinct-without, without-absent}
 
-IsInside-of : (links : List Link) (ends : List Ends) (links' : List Link) (ends' : List Ends) (number : ℕ) (place : Option ℕ) → length links ≡ length links' → length ends ≡ length ends' → IsInside links' ends' number place → IsInside links ends number place
+IsInside-of : (links : List Link) (ends : List Ends) (links' : List Link) (ends' : List Ends) (number : ℕ) (position : Option ℕ) → length links ≡ length links' → length ends ≡ length ends' → IsInside links' ends' number position → IsInside links ends number position
 IsInside-of links ends links' ends' number None links_same ends_same inside = subst (λ n. number < n) (sym ends_same) inside
 IsInside-of links ends links' ends' number (Some slot) links_same ends_same inside = subst (λ n. slot < n) (sym links_same) inside
 
@@ -54,48 +54,48 @@ module _ (links : List Link) (ends : List Ends) (used : List Bool) (lists : List
   abbrev lists' : List (List ℕ)
   lists' = removed lists slot
 
-  is_place_prev : IsPlace list prev
-  is_place_prev = IsPlace-without slot list prev (IsPlace-before_in list slot distinct there)
+  is_position_prev : IsPosition list prev
+  is_position_prev = IsPosition-without slot list prev (IsPosition-before_in list slot distinct there)
 
-  is_place_next : IsPlace list next
-  is_place_next = IsPlace-without slot list next (IsPlace-after_in list slot distinct there)
+  is_position_next : IsPosition list next
+  is_position_next = IsPosition-without slot list next (IsPosition-after_in list slot distinct there)
 
-  next_here : (place : Option ℕ) → IsPlace (without slot list) place → next_at links1 ends1 number place ≡ after (without slot list) place
-  next_here place stays = elim (cases_place place prev) [
+  next_here : (position : Option ℕ) → IsPosition (without slot list) position → next_at links1 ends1 number position ≡ after (without slot list) position
+  next_here position stays = elim (cases_position position prev) [
     | inl e ↦ subst (λ p. next_at links1 ends1 number p ≡ after (without slot list) p) (sym e)
-        (next_at-with_next links ends number prev next (IsInside-linked links ends used lists linked number prev exists is_place_prev)
+        (next_at-with_next links ends number prev next (IsInside-linked links ends used lists linked number prev exists is_position_prev)
         ∙ sym (after-without_before list slot distinct there))
-    | inr outer ↦ next_at-with_next_other links ends number prev next number place outer
-        ∙ linked.next number place (IsPlace-without slot list place stays)
-        ∙ sym (after-without_other list slot distinct there place (IsPlace-without_other slot list place stays) outer)
+    | inr outer ↦ next_at-with_next_other links ends number prev next number position outer
+        ∙ linked.next number position (IsPosition-without slot list position stays)
+        ∙ sym (after-without_other list slot distinct there position (IsPosition-without_other slot list position stays) outer)
   ]
 
-  next_elsewhere : (other : ℕ) → other ≢ number → (place : Option ℕ) → IsPlace (list_at lists other) place → next_at links1 ends1 other place ≡ after (list_at lists other) place
-  next_elsewhere other differ place stays =
-      next_at-with_next_elsewhere links ends number prev next other place differ
-      (apart-linked links ends used lists linked number other prev place differ is_place_prev stays)
-      ∙ linked.next other place stays
+  next_elsewhere : (other : ℕ) → other ≢ number → (position : Option ℕ) → IsPosition (list_at lists other) position → next_at links1 ends1 other position ≡ after (list_at lists other) position
+  next_elsewhere other differ position stays =
+      next_at-with_next_elsewhere links ends number prev next other position differ
+      (apart-linked links ends used lists linked number other prev position differ is_position_prev stays)
+      ∙ linked.next other position stays
 
   inside_links1 : IsInside links1 ends1 number next
   inside_links1 = IsInside-of links1 ends1 links ends number next (length-links_with_next links prev next) (length-ends_with_next ends number prev next)
-      (IsInside-linked links ends used lists linked number next exists is_place_next)
+      (IsInside-linked links ends used lists linked number next exists is_position_next)
 
-  prev_here : (place : Option ℕ) → IsPlace (without slot list) place → prev_at links2 ends2 number place ≡ before (without slot list) place
-  prev_here place stays = elim (cases_place place next) [
+  prev_here : (position : Option ℕ) → IsPosition (without slot list) position → prev_at links2 ends2 number position ≡ before (without slot list) position
+  prev_here position stays = elim (cases_position position next) [
     | inl e ↦ subst (λ p. prev_at links2 ends2 number p ≡ before (without slot list) p) (sym e)
         (prev_at-with_prev links1 ends1 number next prev inside_links1 ∙ sym (before-without_after list slot distinct there))
-    | inr inner ↦ prev_at-with_prev_other links1 ends1 number next prev number place inner
-        ∙ prev_at-with_next links ends number prev next number place
-        ∙ linked.prev number place (IsPlace-without slot list place stays)
-        ∙ sym (before-without_other list slot distinct there place (IsPlace-without_other slot list place stays) inner)
+    | inr inner ↦ prev_at-with_prev_other links1 ends1 number next prev number position inner
+        ∙ prev_at-with_next links ends number prev next number position
+        ∙ linked.prev number position (IsPosition-without slot list position stays)
+        ∙ sym (before-without_other list slot distinct there position (IsPosition-without_other slot list position stays) inner)
   ]
 
-  prev_elsewhere : (other : ℕ) → other ≢ number → (place : Option ℕ) → IsPlace (list_at lists other) place → prev_at links2 ends2 other place ≡ before (list_at lists other) place
-  prev_elsewhere other differ place stays =
-      prev_at-with_prev_elsewhere links1 ends1 number next prev other place differ
-      (apart-linked links ends used lists linked number other next place differ is_place_next stays)
-      ∙ prev_at-with_next links ends number prev next other place
-      ∙ linked.prev other place stays
+  prev_elsewhere : (other : ℕ) → other ≢ number → (position : Option ℕ) → IsPosition (list_at lists other) position → prev_at links2 ends2 other position ≡ before (list_at lists other) position
+  prev_elsewhere other differ position stays =
+      prev_at-with_prev_elsewhere links1 ends1 number next prev other position differ
+      (apart-linked links ends used lists linked number other next position differ is_position_next stays)
+      ∙ prev_at-with_next links ends number prev next other position
+      ∙ linked.prev other position stays
 
   -- what is used after
   abbrev left : List Bool
@@ -134,11 +134,11 @@ module _ (links : List Link) (ends : List Ends) (used : List Bool) (lists : List
     | inr apart ↦ grind (arith, nat_tests, apart, linked.listed other (sym (left_before other apart) ∙ stays))
   ])
 
-  next' : (n : ℕ) (place : Option ℕ) → IsPlace (list_at lists' n) place → next_at links2 ends2 n place ≡ after (list_at lists' n) place
-  next' n place stays = next_at-with_prev links1 ends1 number next prev n place ∙ read_at_each lists lists' number _ (list_at-removed lists slot number) kept (next_at links1 ends1) after next_here next_elsewhere n place stays
+  next' : (n : ℕ) (position : Option ℕ) → IsPosition (list_at lists' n) position → next_at links2 ends2 n position ≡ after (list_at lists' n) position
+  next' n position stays = next_at-with_prev links1 ends1 number next prev n position ∙ read_at_each lists lists' number _ (list_at-removed lists slot number) kept (next_at links1 ends1) after next_here next_elsewhere n position stays
 
-  prev' : (n : ℕ) (place : Option ℕ) → IsPlace (list_at lists' n) place → prev_at links2 ends2 n place ≡ before (list_at lists' n) place
-  prev' n place stays = read_at_each lists lists' number _ (list_at-removed lists slot number) kept (prev_at links2 ends2) before prev_here prev_elsewhere n place stays
+  prev' : (n : ℕ) (position : Option ℕ) → IsPosition (list_at lists' n) position → prev_at links2 ends2 n position ≡ before (list_at lists' n) position
+  prev' n position stays = read_at_each lists lists' number _ (list_at-removed lists slot number) kept (prev_at links2 ends2) before prev_here prev_elsewhere n position stays
 
   linked2 : IsLinked links2 ends2 left lists'
   linked2 = record {
@@ -161,7 +161,7 @@ module _ (links : List Link) (ends : List Ends) (used : List Bool) (lists : List
     link_is = read ∙ link_at-linked
 
     pub IsInside-remove_prev : IsInside links ends link.list link.prev
-    IsInside-remove_prev = subst (λ l. IsInside links ends l.list l.prev) (sym link_is) (IsInside-linked links ends used lists linked number prev exists is_place_prev)
+    IsInside-remove_prev = subst (λ l. IsInside links ends l.list l.prev) (sym link_is) (IsInside-linked links ends used lists linked number prev exists is_position_prev)
 
     pub IsInside-remove_next : (la : List Link) (ea : List Ends) → la ≡ links_with_next links link.prev link.next → ea ≡ ends_with_next ends link.list link.prev link.next → IsInside la ea link.list link.next
     IsInside-remove_next la ea links_next ends_next = rw (links_next, ends_next)

@@ -28,13 +28,13 @@ same_read f (y ∷ xs) zero (suc j) x d kept = refl
 same_read f (y ∷ xs) (suc i) zero x d kept = refl
 same_read f (y ∷ xs) (suc i) (suc j) x d kept = same_read f xs i j x d (λ e. kept (ap suc e))
 
--- ---- a write of what comes after a place
+-- ---- a write of what comes after a position
 
 pub next_at-with_next : (links : List Link) (ends : List Ends) (number : ℕ) (at value : Option ℕ) → IsInside links ends number at → next_at (links_with_next links at value) (ends_with_next ends number at value) number at ≡ value
 next_at-with_next links ends number None value inside = ap (λ e. e.first) (get_or-set_same ends number _ _ inside)
 next_at-with_next links ends number (Some slot) value inside = ap (λ l. l.next) (get_or-set_same links slot _ _ inside)
 
-pub next_at-with_next_other : (links : List Link) (ends : List Ends) (number : ℕ) (at value : Option ℕ) (list : ℕ) (place : Option ℕ) → place ≢ at → next_at (links_with_next links at value) (ends_with_next ends number at value) list place ≡ next_at links ends list place
+pub next_at-with_next_other : (links : List Link) (ends : List Ends) (number : ℕ) (at value : Option ℕ) (list : ℕ) (position : Option ℕ) → position ≢ at → next_at (links_with_next links at value) (ends_with_next ends number at value) list position ≡ next_at links ends list position
 next_at-with_next_other links ends number None value list None other = absurd (other refl)
 next_at-with_next_other links ends number None value list (Some slot) other = refl
 next_at-with_next_other links ends number (Some at) value list None other = refl
@@ -46,7 +46,7 @@ pub next_at-with_next_list : (links : List Link) (ends : List Ends) (number : �
 next_at-with_next_list links ends number None value list other = ap (λ e. e.first) (get_or-set_other ends number list _ _ other)
 next_at-with_next_list links ends number (Some at) value list other = refl
 
-pub prev_at-with_next : (links : List Link) (ends : List Ends) (number : ℕ) (at value : Option ℕ) (list : ℕ) (place : Option ℕ) → prev_at (links_with_next links at value) (ends_with_next ends number at value) list place ≡ prev_at links ends list place
+pub prev_at-with_next : (links : List Link) (ends : List Ends) (number : ℕ) (at value : Option ℕ) (list : ℕ) (position : Option ℕ) → prev_at (links_with_next links at value) (ends_with_next ends number at value) list position ≡ prev_at links ends list position
 prev_at-with_next links ends number None value list None = same_read (λ e. e.last) ends number list _ _ (λ _. refl)
 prev_at-with_next links ends number None value list (Some slot) = refl
 prev_at-with_next links ends number (Some at) value list None = refl
@@ -56,13 +56,13 @@ pub list-with_next : (links : List Link) (at value : Option ℕ) (slot : ℕ) �
 list-with_next links None value slot = refl
 list-with_next links (Some at) value slot = same_read (λ l. l.list) links at slot _ _ (λ _. refl)
 
--- ---- a write of what comes before a place
+-- ---- a write of what comes before a position
 
 pub prev_at-with_prev : (links : List Link) (ends : List Ends) (number : ℕ) (at value : Option ℕ) → IsInside links ends number at → prev_at (links_with_prev links at value) (ends_with_prev ends number at value) number at ≡ value
 prev_at-with_prev links ends number None value inside = ap (λ e. e.last) (get_or-set_same ends number _ _ inside)
 prev_at-with_prev links ends number (Some slot) value inside = ap (λ l. l.prev) (get_or-set_same links slot _ _ inside)
 
-pub prev_at-with_prev_other : (links : List Link) (ends : List Ends) (number : ℕ) (at value : Option ℕ) (list : ℕ) (place : Option ℕ) → place ≢ at → prev_at (links_with_prev links at value) (ends_with_prev ends number at value) list place ≡ prev_at links ends list place
+pub prev_at-with_prev_other : (links : List Link) (ends : List Ends) (number : ℕ) (at value : Option ℕ) (list : ℕ) (position : Option ℕ) → position ≢ at → prev_at (links_with_prev links at value) (ends_with_prev ends number at value) list position ≡ prev_at links ends list position
 prev_at-with_prev_other links ends number None value list None other = absurd (other refl)
 prev_at-with_prev_other links ends number None value list (Some slot) other = refl
 prev_at-with_prev_other links ends number (Some at) value list None other = refl
@@ -73,7 +73,7 @@ pub prev_at-with_prev_list : (links : List Link) (ends : List Ends) (number : �
 prev_at-with_prev_list links ends number None value list other = ap (λ e. e.last) (get_or-set_other ends number list _ _ other)
 prev_at-with_prev_list links ends number (Some at) value list other = refl
 
-pub next_at-with_prev : (links : List Link) (ends : List Ends) (number : ℕ) (at value : Option ℕ) (list : ℕ) (place : Option ℕ) → next_at (links_with_prev links at value) (ends_with_prev ends number at value) list place ≡ next_at links ends list place
+pub next_at-with_prev : (links : List Link) (ends : List Ends) (number : ℕ) (at value : Option ℕ) (list : ℕ) (position : Option ℕ) → next_at (links_with_prev links at value) (ends_with_prev ends number at value) list position ≡ next_at links ends list position
 next_at-with_prev links ends number None value list None = same_read (λ e. e.first) ends number list _ _ (λ _. refl)
 next_at-with_prev links ends number None value list (Some slot) = refl
 next_at-with_prev links ends number (Some at) value list None = refl
@@ -83,14 +83,14 @@ pub list-with_prev : (links : List Link) (at value : Option ℕ) (slot : ℕ) �
 list-with_prev links None value slot = refl
 list-with_prev links (Some at) value slot = same_read (λ l. l.list) links at slot _ _ (λ _. refl)
 
--- ---- a write at a place of one list changes nothing at a place of another
+-- ---- a write at a position of one list changes nothing at a position of another
 
-pub next_at-with_next_elsewhere : (links : List Link) (ends : List Ends) (number : ℕ) (at value : Option ℕ) (list : ℕ) (place : Option ℕ) → list ≢ number → ((slot : ℕ) → place ≡ Some slot → at ≡ Some slot → ⊥) → next_at (links_with_next links at value) (ends_with_next ends number at value) list place ≡ next_at links ends list place
+pub next_at-with_next_elsewhere : (links : List Link) (ends : List Ends) (number : ℕ) (at value : Option ℕ) (list : ℕ) (position : Option ℕ) → list ≢ number → ((slot : ℕ) → position ≡ Some slot → at ≡ Some slot → ⊥) → next_at (links_with_next links at value) (ends_with_next ends number at value) list position ≡ next_at links ends list position
 next_at-with_next_elsewhere links ends number at value list None other apart = next_at-with_next_list links ends number at value list other
 next_at-with_next_elsewhere links ends number at value list (Some slot) other apart =
     next_at-with_next_other links ends number at value list (Some slot) (λ e. apart slot refl (sym e))
 
-pub prev_at-with_prev_elsewhere : (links : List Link) (ends : List Ends) (number : ℕ) (at value : Option ℕ) (list : ℕ) (place : Option ℕ) → list ≢ number → ((slot : ℕ) → place ≡ Some slot → at ≡ Some slot → ⊥) → prev_at (links_with_prev links at value) (ends_with_prev ends number at value) list place ≡ prev_at links ends list place
+pub prev_at-with_prev_elsewhere : (links : List Link) (ends : List Ends) (number : ℕ) (at value : Option ℕ) (list : ℕ) (position : Option ℕ) → list ≢ number → ((slot : ℕ) → position ≡ Some slot → at ≡ Some slot → ⊥) → prev_at (links_with_prev links at value) (ends_with_prev ends number at value) list position ≡ prev_at links ends list position
 prev_at-with_prev_elsewhere links ends number at value list None other apart = prev_at-with_prev_list links ends number at value list other
 prev_at-with_prev_elsewhere links ends number at value list (Some slot) other apart =
     prev_at-with_prev_other links ends number at value list (Some slot) (λ e. apart slot refl (sym e))

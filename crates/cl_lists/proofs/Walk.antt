@@ -41,7 +41,7 @@ walk-list links zero [] distinct next fits = refl
 walk-list links (suc most) [] distinct next fits = refl
 walk-list links zero (x ∷ list) distinct next fits = absurd (omega (arith, fits))
 walk-list links (suc most) (x ∷ list) distinct next fits =
-    ap (λ place. x ∷ walk links most place) (next x (has-head x list) ∙ after_in-head x list)
+    ap (λ position. x ∷ walk links most position) (next x (has-head x list) ∙ after_in-head x list)
     ∙ ap (λ xs. x ∷ xs) (walk-list links most list (is_distinct-tail x list distinct)
     (λ slot on. next slot (has-tail x list slot on) ∙ after_in-tail x list slot distinct on) (omega (arith, fits)))
 

@@ -5,12 +5,12 @@ use Rattle.cl_lists.specs.Lists.{list_at}
 use Rattle.cl_lists.specs.declared.slots.Link.{Link}
 use Rattle.cl_lists.specs.declared.slots.Ends.{Ends}
 
--- a place of a list is a slot on it, or `None`, which stands before the first slot and after the last one
-abbrev pub IsPlace : List ℕ → Option ℕ → Type 0
-IsPlace list None = Unit {0}
-IsPlace list (Some slot) = has list slot ≡ true
+-- a position of a list is a slot on it, or `None`, which stands before the first slot and after the last one
+abbrev pub IsPosition : List ℕ → Option ℕ → Type 0
+IsPosition list None = Unit {0}
+IsPosition list (Some slot) = has list slot ≡ true
 
--- the place after a place, and the one before it
+-- the position after a position, and the one before it
 abbrev pub after : List ℕ → Option ℕ → Option ℕ
 after list None = first_of list
 after list (Some slot) = after_in list slot
@@ -33,7 +33,7 @@ link_at links slot = slice_index_or links slot no_link
 abbrev pub ends_at : List Ends → ℕ → Ends
 ends_at ends number = slice_index_or ends number no_ends
 
--- what the links say is the place after a place of a list, and the one before it
+-- what the links say is the position after a position of a list, and the one before it
 abbrev pub next_at : List Link → List Ends → ℕ → Option ℕ → Option ℕ
 next_at links ends number None = (ends_at ends number).first
 next_at links ends number (Some slot) = (link_at links slot).next
@@ -50,15 +50,15 @@ pub record IsLinked (links : List Link) (ends : List Ends) (used : List Bool) (l
   pub in_use : (number slot : ℕ) → has (list_at lists number) slot ≡ true → slice_index_or used slot false ≡ true
   pub listed : (slot : ℕ) → slice_index_or used slot false ≡ true → has (list_at lists (link_at links slot).list) slot ≡ true
   pub numbered : (number slot : ℕ) → has (list_at lists number) slot ≡ true → (link_at links slot).list ≡ number
-  pub next : (number : ℕ) (place : Option ℕ) → IsPlace (list_at lists number) place → next_at links ends number place ≡ after (list_at lists number) place
-  pub prev : (number : ℕ) (place : Option ℕ) → IsPlace (list_at lists number) place → prev_at links ends number place ≡ before (list_at lists number) place
+  pub next : (number : ℕ) (position : Option ℕ) → IsPosition (list_at lists number) position → next_at links ends number position ≡ after (list_at lists number) position
+  pub prev : (number : ℕ) (position : Option ℕ) → IsPosition (list_at lists number) position → prev_at links ends number position ≡ before (list_at lists number) position
 
--- the place is one that there is a link or an end for
+-- the position is one that there is a link or an end for
 abbrev pub IsInside : List Link → List Ends → ℕ → Option ℕ → Type 0
 IsInside links ends number None = number < length ends
 IsInside links ends number (Some slot) = slot < length links
 
--- the links and the ends after a write of what comes after a place, or before it
+-- the links and the ends after a write of what comes after a position, or before it
 abbrev pub links_with_next : List Link → Option ℕ → Option ℕ → List Link
 links_with_next links None next = links
 links_with_next links (Some slot) next = slice_set links slot (record (link_at links slot) { next = next })
@@ -75,9 +75,9 @@ abbrev pub ends_with_prev : List Ends → ℕ → Option ℕ → Option ℕ → 
 ends_with_prev ends number None prev = slice_set ends number (record (ends_at ends number) { last = prev })
 ends_with_prev ends number (Some slot) prev = ends
 
--- the slots that the links lead to from a place on, so many at most
+-- the slots that the links lead to from a position on, so many at most
 unfoldable pub walk : List Link → ℕ → Option ℕ → List ℕ
-walk links zero place = []
+walk links zero position = []
 walk links (suc most) None = []
 walk links (suc most) (Some slot) = slot ∷ walk links most (link_at links slot).next
 

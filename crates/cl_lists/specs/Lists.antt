@@ -1,4 +1,4 @@
--- The lists of one side, each named by its number, which is its place among them.
+-- The lists of one side, each named by its number, which is its position among them.
 use Rattle.std.specs.Prelude.{ℕ, List, [], ◌∷◌, ◌++◌, map, slice_index_or, slice_set}
 use Rattle.cl_lists.specs.SlotList.{without}
 

@@ -11,8 +11,8 @@ use std::alloc::Global;
 
 /// Keeps items, each on one list of side X and on one list of side Y.
 ///
-/// Contracts see the item at each slot, the lists of each side by their numbers, each as its slots from first to
-/// last, and how many more items there is room for.
+/// Contracts see the item at each slot, and how many more items there is room for. They see the lists of each side
+/// by their numbers, each as its slots from first to last.
 #[derive(Debug, Drop)]
 pub struct Arena<T> {
     slots: Vec<LinkedSlot<T>>,
@@ -34,7 +34,7 @@ impl<T> Arena<T> {
     ghost use Rattle.cl_lists.specs.Sides.{opposite};
     ghost use Rattle.cl_lists.specs.Arena.{lists_on, list_of, list_count, item_at, IsInUse, free_slots, IsPlaced, Pushes, Unlinks, IsUnchanged};
 
-    /// An arena with no item and no list. It takes no memory.
+    /// An arena with no item and no list. It allocates nothing.
     pub fn new(alloc: Global) -> Self
         ensures x { lists_on result Side.X ≡ [] }
         ensures y { lists_on result Side.Y ≡ [] }
@@ -84,9 +84,9 @@ impl<T> Arena<T> {
         }
     }
 
-    /// Makes room for `count` more items, and no more. The items and the lists stay, whatever the answer.
+    /// Makes room for `count` more items, and no more. The items and the lists stay as they are, also after an error.
     ///
-    /// Each slot that it adds takes a step; where there is room already it does nothing.
+    /// It takes one step for each slot that it adds.
     pub fn reserve(&mut self, count: usize) -> Result<(), NoMemory>
         ensures same { IsUnchanged self.old self.new }
         ensures ok { OnOk result (count ≤ free_slots self.new) }
@@ -114,7 +114,7 @@ impl<T> Arena<T> {
         Ok(())
     }
 
-    /// Puts an item last on list `x` of side X and last on list `y` of side Y. It takes no memory, and constant time.
+    /// Appends an item to list `x` of side X and to list `y` of side Y. It allocates nothing and takes constant time.
     pub fn push_back(&mut self, x: u32, y: u32, item: T) -> Slot
         requires room { 1 ≤ free_slots self.old }
         requires x_exists { x < list_count self.old Side.X }
@@ -139,7 +139,7 @@ impl<T> Arena<T> {
         slot
     }
 
-    /// Takes an item off both its lists. The order of the other items stays. It takes no memory, and constant time.
+    /// Removes an item from both its lists. The order of the others stays. It allocates nothing and takes constant time.
     pub fn unlink(&mut self, slot: Slot) -> T
         requires { IsInUse self.old slot }
         ensures unlinks { Unlinks self.old self.new slot result }
@@ -169,7 +169,7 @@ impl<T> Arena<T> {
         }
     }
 
-    /// The slot that follows on the list of the side, or `None` at the end of the list.
+    /// The next slot on the slot's list of the side, or `None` at the end of the list.
     pub fn next(&self, side: Side, slot: Slot) -> Option<Slot>
         requires { IsInUse self.now slot }
         ensures value { (list : ℕ) → IsOn (list_of self.now side list) slot → result ≡ after_in (list_of self.now side list) slot }
@@ -178,7 +178,7 @@ impl<T> Arena<T> {
         links::link(&self.slots, side, slot).next
     }
 
-    /// The slot that comes before on the list of the side, or `None` at the start of the list.
+    /// The previous slot on the slot's list of the side, or `None` at the start of the list.
     pub fn prev(&self, side: Side, slot: Slot) -> Option<Slot>
         requires { IsInUse self.now slot }
         ensures value { (list : ℕ) → IsOn (list_of self.now side list) slot → result ≡ before_in (list_of self.now side list) slot }
@@ -187,7 +187,7 @@ impl<T> Arena<T> {
         links::link(&self.slots, side, slot).prev
     }
 
-    /// The first slot of a list, or `None` of an empty list and where there is no such list.
+    /// The first slot of a list, or `None` if the list is empty or there is no such list.
     pub fn first(&self, side: Side, list: u32) -> Option<Slot>
         ensures value { result ≡ first_of (list_of self.now side list) }
         ensures in_use { IfSome result (λ slot. IsInUse self.now slot) }
@@ -195,7 +195,7 @@ impl<T> Arena<T> {
         self.ends(side, list).first
     }
 
-    /// The last slot of a list, or `None` of an empty list and where there is no such list.
+    /// The last slot of a list, or `None` if the list is empty or there is no such list.
     pub fn last(&self, side: Side, list: u32) -> Option<Slot>
         ensures value { result ≡ last_of (list_of self.now side list) }
         ensures in_use { IfSome result (λ slot. IsInUse self.now slot) }

@@ -1,4 +1,4 @@
-//! Items that come and go, on both sides at once.
+//! Items are inserted and removed on both sides at once.
 ghost use Rattle.std.specs.Prelude.{◌≡◌, ◌<◌, IsSome, Some, None, length, true, false, slice_index_or, slice_set};
 ghost use Rattle.cl_lists.specs.Entries.{contents, frees, items, used, lists_on_side, AreLinked};
 ghost use Rattle.cl_lists.specs.Lists.{appended, removed};
@@ -6,7 +6,8 @@ ghost use Rattle.cl_lists.specs.Lists.{appended, removed};
 use crate::slots::{Content, Ends, LinkedSlot, Side, Slot};
 use crate::{contents, links};
 
-// Puts an item into a free slot, last on a list of each side. The result is the next free slot, which the slot named.
+// Puts an item into a free slot, and appends the slot to a list of each side. Returns the next free slot, which the
+// slot named.
 pub(crate) fn insert<T>(
     slots: &mut [LinkedSlot<T>],
     x_ends: &mut [Ends],
@@ -33,7 +34,7 @@ pub(crate) fn insert<T>(
     contents::fill(slots, slot, item)
 }
 
-// Takes the item out of a slot, and the slot off its lists. The slot is then free and names the next free slot.
+// Takes the item out of a slot, and removes the slot from its lists. The slot is then free and names the next free slot.
 pub(crate) fn extract<T>(
     slots: &mut [LinkedSlot<T>],
     x_ends: &mut [Ends],

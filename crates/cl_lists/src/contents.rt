@@ -7,7 +7,7 @@ use crate::slots::{Content, LinkedSlot, Side, Slot};
 use cl_types::NoMemory;
 use std::mem;
 
-// Puts a content into a slot, and gives the one that was there.
+// Replaces the content of a slot, and returns the one that was there.
 fn exchange<T>(slots: &mut [LinkedSlot<T>], slot: Slot, content: Content<T>) -> Content<T>
     requires { slot < length slots.old }
     ensures had { slice_get (contents slots.old) slot ≡ Some result }
@@ -17,7 +17,7 @@ fn exchange<T>(slots: &mut [LinkedSlot<T>], slot: Slot, content: Content<T>) -> 
     mem::replace(&mut slots[slot.index].content, content)
 }
 
-// Puts an item into a free slot. The result is the next free slot, which the slot named.
+// Puts an item into a free slot. Returns the next free slot, which the slot named.
 pub(crate) fn fill<T>(slots: &mut [LinkedSlot<T>], slot: Slot, item: T) -> Option<Slot>
     requires { IsSome (slice_index_or (frees slots.old) slot None) }
     ensures next { slice_index_or (frees slots.old) slot None ≡ Some result }
@@ -43,7 +43,7 @@ pub(crate) fn vacate<T>(slots: &mut [LinkedSlot<T>], slot: Slot, next: Option<Sl
     }
 }
 
-// Adds a free slot behind the others. It names the next free slot.
+// Appends a free slot, which names the next free slot.
 pub(crate) fn add_free<T>(
     slots: &mut Vec<LinkedSlot<T>>,
     next: Option<Slot>,

@@ -1,4 +1,4 @@
-//! Items on linked lists: each item is on one list of each of two sides.
+//! Linked lists of items: each item is on one list of each of two sides.
 #![tactic(auto)]
 
 mod arena;

@@ -24,21 +24,21 @@ fn set_link<T>(slots: &mut [LinkedSlot<T>], side: Side, slot: Slot, link: &Link)
     slots[slot.index].set_link(side, link);
 }
 
-// Writes what comes after a place of a list. `None` is the place before the first slot.
+// Writes what comes after a position of a list. `None` is the position before the first slot.
 fn set_next<T>(
     slots: &mut [LinkedSlot<T>],
     ends: &mut [Ends],
     side: Side,
     list: u32,
-    place: Option<Slot>,
+    position: Option<Slot>,
     next: Option<Slot>,
 )
-    requires { IsInside (links_on side slots.old) ends.old list place }
-    ensures links { links_on side slots.new ≡ links_with_next (links_on side slots.old) place next }
-    ensures ends { ends.new ≡ ends_with_next ends.old list place next }
+    requires { IsInside (links_on side slots.old) ends.old list position }
+    ensures links { links_on side slots.new ≡ links_with_next (links_on side slots.old) position next }
+    ensures ends { ends.new ≡ ends_with_next ends.old list position next }
     ensures rest { DifferOn side slots.old slots.new }
 {
-    match place {
+    match position {
         Some(slot) => {
             let old = link(slots, side, slot);
             set_link(slots, side, slot, &Link { next, ..old });
@@ -47,21 +47,21 @@ fn set_next<T>(
     }
 }
 
-// Writes what comes before a place of a list. `None` is the place after the last slot.
+// Writes what comes before a position of a list. `None` is the position after the last slot.
 fn set_prev<T>(
     slots: &mut [LinkedSlot<T>],
     ends: &mut [Ends],
     side: Side,
     list: u32,
-    place: Option<Slot>,
+    position: Option<Slot>,
     prev: Option<Slot>,
 )
-    requires { IsInside (links_on side slots.old) ends.old list place }
-    ensures links { links_on side slots.new ≡ links_with_prev (links_on side slots.old) place prev }
-    ensures ends { ends.new ≡ ends_with_prev ends.old list place prev }
+    requires { IsInside (links_on side slots.old) ends.old list position }
+    ensures links { links_on side slots.new ≡ links_with_prev (links_on side slots.old) position prev }
+    ensures ends { ends.new ≡ ends_with_prev ends.old list position prev }
     ensures rest { DifferOn side slots.old slots.new }
 {
-    match place {
+    match position {
         Some(slot) => {
             let old = link(slots, side, slot);
             set_link(slots, side, slot, &Link { prev, ..old });
@@ -70,7 +70,7 @@ fn set_prev<T>(
     }
 }
 
-// Puts a slot that is on no list last on one of the side's lists.
+// Appends a slot that is on no list to one of the side's lists.
 pub(crate) fn append<T>(
     slots: &mut [LinkedSlot<T>],
     ends: &mut [Ends],
@@ -95,7 +95,7 @@ pub(crate) fn append<T>(
     set_prev(slots, ends, side, list, link.next, Some(slot));
 }
 
-// Takes a slot that is in use off its list of the side.
+// Removes a slot that is in use from its list of the side.
 pub(crate) fn remove<T>(slots: &mut [LinkedSlot<T>], ends: &mut [Ends], side: Side, slot: Slot)
     requires linked { AreLinked side slots.old ends.old }
     requires in_use { slice_index_or (used slots.old) slot false ≡ true }
@@ -107,7 +107,7 @@ pub(crate) fn remove<T>(slots: &mut [LinkedSlot<T>], ends: &mut [Ends], side: Si
     set_prev(slots, ends, side, old.list, old.next, old.prev);
 }
 
-// The ends of a list, and those of an empty list where there is no such list.
+// The ends of a list, or those of an empty list if there is no such list.
 pub(crate) fn ends(all: &[Ends], list: u32) -> Ends
     ensures { result ≡ ends_at all.now list }
 {

@@ -1,4 +1,4 @@
-//! Slots: where an item stands, and how the slots of a list are linked.
+//! Slots: where an item is kept, and how the slots of a list are linked.
 ghost use Rattle.std.specs.Prelude.{◌≡◌};
 
 use std::marker::Model;
@@ -26,7 +26,7 @@ impl Model for Slot {
     ghost inverse = { λ number. record { index = number } };
 }
 
-// Where a slot stands on a list of one side. At either end of the list there is no neighbour.
+// The neighbours of a slot on its list of one side. At either end of the list there is none.
 #[derive(Clone, Copy, Debug)]
 pub(crate) struct Link {
     pub(crate) prev: Option<Slot>,
@@ -43,7 +43,7 @@ impl Link {
     };
 }
 
-// The two ends of a list, which an empty list has not.
+// The two ends of a list. An empty list has none.
 #[derive(Clone, Copy, Debug)]
 pub(crate) struct Ends {
     pub(crate) first: Option<Slot>,

@@ -1,9 +1,9 @@
--- The places of a list with one slot more or less.
+-- The positions of a list with one slot more or less.
 use Rattle.std.proofs.Common.{◌≡◌, ◌≢◌, ℕ, Bool, true, false, ◌||◌, List, [], ◌∷◌, ◌++◌, Option, Some, None, refl, sym, ap, subst, ◌∙◌, arith}
 use Rattle.std.proofs.lemmas.Bool.Decides.{nat_tests}
 use Rattle.std.proofs.lemmas.List.{append-nil}
 use Rattle.cl_lists.specs.SlotList.{has, is_distinct, first_of, last_or, last_of, after_in, before_or, before_in, without}
-use Rattle.cl_lists.specs.Links.{IsPlace, after, before}
+use Rattle.cl_lists.specs.Links.{IsPosition, after, before}
 use Rattle.cl_lists.proofs.SlotListLemmas.{has-append, has-without, has-last_or, has-last, has-first, is_distinct-append_left, is_distinct-append_apart, is_distinct-push, is_distinct-without, split_at, after_in-append_right, last_or-append, before_or-append_right, before_or-append_left, absent-back, after_in-split, before_in-split, without-split, or_true}
 
 -- ---- the list of two parts
@@ -18,11 +18,11 @@ last_or-some : (x : ℕ) (xs : List ℕ) → last_or (Some x) xs ≡ None → �
 last_or-some x [] none = grind arith
 last_or-some x (y ∷ xs) none = last_or-some y xs none
 
--- after the last place of the first part comes the first of the second
+-- after the last position of the first part comes the first of the second
 pub after-append_last : (xs ys : List ℕ) → is_distinct xs ≡ true → after (xs ++ ys) (last_of xs) ≡ first_of ys
 after-append_last [] ys distinct = refl
 after-append_last (x ∷ xs) ys distinct = at_last (last_or (Some x) xs) refl where
-  at_last : (place : Option ℕ) → last_or (Some x) xs ≡ place → after (x ∷ xs ++ ys) place ≡ first_of ys
+  at_last : (position : Option ℕ) → last_or (Some x) xs ≡ position → after (x ∷ xs ++ ys) position ≡ first_of ys
   at_last None last = absurd (last_or-some x xs last)
   at_last (Some slot) last = after_in-append_last x xs ys slot distinct last
 
@@ -32,13 +32,13 @@ after_in-append_inner [] ys slot there inner = grind arith
 after_in-append_inner (x ∷ []) ys slot there inner = absurd (inner (grind (arith, nat_tests)))
 after_in-append_inner (x ∷ y ∷ xs) ys slot there inner = grind (arith, nat_tests, after_in-append_inner (y ∷ xs) ys slot)
 
--- after any other place of the first part comes what comes there
-pub after-append_inner : (xs ys : List ℕ) (place : Option ℕ) → IsPlace xs place → place ≢ last_of xs → after (xs ++ ys) place ≡ after xs place
+-- after any other position of the first part comes what comes there
+pub after-append_inner : (xs ys : List ℕ) (position : Option ℕ) → IsPosition xs position → position ≢ last_of xs → after (xs ++ ys) position ≡ after xs position
 after-append_inner [] ys None there inner = absurd (inner refl)
 after-append_inner (x ∷ xs) ys None there inner = refl
 after-append_inner xs ys (Some slot) there inner = after_in-append_inner xs ys slot there inner
 
--- before the first place of the second part comes the last of the first
+-- before the first position of the second part comes the last of the first
 pub before-append_first : (xs ys : List ℕ) → is_distinct (xs ++ ys) ≡ true → before (xs ++ ys) (first_of ys) ≡ last_of xs
 unfolding before_or
 before-append_first xs [] distinct = last_or-append None xs []
@@ -65,8 +65,8 @@ before_in-append_inner xs s ys slot apart inner false absent =
     ∙ before_or-skip (last_or None xs) s ys slot apart inner
     ∙ sym (before_or-append_right None xs (s ∷ ys) slot absent)
 
--- what comes before any other place stays where a slot between the two parts goes
-pub before-append_inner : (xs : List ℕ) (s : ℕ) (ys : List ℕ) (place : Option ℕ) → place ≢ Some s → place ≢ first_of ys → before (xs ++ ys) place ≡ before (xs ++ s ∷ ys) place
+-- what comes before any other position stays where a slot between the two parts goes
+pub before-append_inner : (xs : List ℕ) (s : ℕ) (ys : List ℕ) (position : Option ℕ) → position ≢ Some s → position ≢ first_of ys → before (xs ++ ys) position ≡ before (xs ++ s ∷ ys) position
 before-append_inner xs s ys None apart inner =
     last_or-append None xs ys ∙ last_or-inner (last_or None xs) (Some s) ys inner ∙ sym (last_or-append None xs (s ∷ ys))
 before-append_inner xs s ys (Some slot) apart inner =
@@ -82,8 +82,8 @@ after_in-append_outer xs s ys slot apart outer true there =
 after_in-append_outer xs s ys slot apart outer false absent =
     after_in-append_right xs ys slot absent ∙ after_in-skip s ys slot apart ∙ sym (after_in-append_right xs (s ∷ ys) slot absent)
 
--- what comes after any other place stays where a slot between the two parts goes
-pub after-append_outer : (xs : List ℕ) (s : ℕ) (ys : List ℕ) (place : Option ℕ) → place ≢ Some s → place ≢ last_of xs → after (xs ++ ys) place ≡ after (xs ++ s ∷ ys) place
+-- what comes after any other position stays where a slot between the two parts goes
+pub after-append_outer : (xs : List ℕ) (s : ℕ) (ys : List ℕ) (position : Option ℕ) → position ≢ Some s → position ≢ last_of xs → after (xs ++ ys) position ≡ after (xs ++ s ∷ ys) position
 after-append_outer [] s ys None apart outer = absurd (outer refl)
 after-append_outer (x ∷ xs) s ys None apart outer = refl
 after-append_outer xs s ys (Some slot) apart outer =
@@ -99,8 +99,8 @@ module _ (list : List ℕ) (slot : ℕ) (distinct : is_distinct list ≡ true) (
   unfolding after_in
   after-push_self = after_in-append_right list (slot ∷ []) slot absent ∙ grind (arith, nat_tests)
 
-  pub after-push_other : (place : Option ℕ) → place ≢ Some slot → place ≢ last_of list → after (list ++ slot ∷ []) place ≡ after list place
-  after-push_other place apart outer = sym (after-append_outer list slot [] place apart outer) ∙ ap (λ xs. after xs place) (append-nil list)
+  pub after-push_other : (position : Option ℕ) → position ≢ Some slot → position ≢ last_of list → after (list ++ slot ∷ []) position ≡ after list position
+  after-push_other position apart outer = sym (after-append_outer list slot [] position apart outer) ∙ ap (λ xs. after xs position) (append-nil list)
 
   pub before-push_end : last_of (list ++ slot ∷ []) ≡ Some slot
   before-push_end = last_or-append None list (slot ∷ [])
@@ -108,8 +108,8 @@ module _ (list : List ℕ) (slot : ℕ) (distinct : is_distinct list ≡ true) (
   pub before-push_self : before_in (list ++ slot ∷ []) slot ≡ last_of list
   before-push_self = before-append_first list (slot ∷ []) (is_distinct-push list slot distinct absent)
 
-  pub before-push_other : (place : Option ℕ) → place ≢ Some slot → place ≢ None → before (list ++ slot ∷ []) place ≡ before list place
-  before-push_other place apart inner = sym (before-append_inner list slot [] place apart inner) ∙ ap (λ xs. before xs place) (append-nil list)
+  pub before-push_other : (position : Option ℕ) → position ≢ Some slot → position ≢ None → before (list ++ slot ∷ []) position ≡ before list position
+  before-push_other position apart inner = sym (before-append_inner list slot [] position apart inner) ∙ ap (λ xs. before xs position) (append-nil list)
 
 -- ---- a slot less
 
@@ -153,12 +153,12 @@ module _ (list : List ℕ) (slot : ℕ) (distinct : is_distinct list ≡ true) (
       ∙ after-append_last parts.front parts.back front_distinct
       ∙ sym parts.next
 
-  pub after-without_other : (place : Option ℕ) → place ≢ Some slot → place ≢ before_in list slot → after (without slot list) place ≡ after list place
-  after-without_other place apart outer =
+  pub after-without_other : (position : Option ℕ) → position ≢ Some slot → position ≢ before_in list slot → after (without slot list) position ≡ after list position
+  after-without_other position apart outer =
       let parts = parts_of list slot distinct there in
-      ap (λ xs. after xs place) parts.rest
-      ∙ after-append_outer parts.front slot parts.back place apart (λ e. outer (e ∙ sym parts.prev))
-      ∙ ap (λ xs. after xs place) (sym parts.whole)
+      ap (λ xs. after xs position) parts.rest
+      ∙ after-append_outer parts.front slot parts.back position apart (λ e. outer (e ∙ sym parts.prev))
+      ∙ ap (λ xs. after xs position) (sym parts.whole)
 
   pub before-without_after : before (without slot list) (after_in list slot) ≡ before_in list slot
   before-without_after =
@@ -168,36 +168,36 @@ module _ (list : List ℕ) (slot : ℕ) (distinct : is_distinct list ≡ true) (
       ∙ before-append_first parts.front parts.back (subst (λ xs. is_distinct xs ≡ true) parts.rest (is_distinct-without slot list distinct))
       ∙ sym parts.prev
 
-  pub before-without_other : (place : Option ℕ) → place ≢ Some slot → place ≢ after_in list slot → before (without slot list) place ≡ before list place
-  before-without_other place apart inner =
+  pub before-without_other : (position : Option ℕ) → position ≢ Some slot → position ≢ after_in list slot → before (without slot list) position ≡ before list position
+  before-without_other position apart inner =
       let parts = parts_of list slot distinct there in
-      ap (λ xs. before xs place) parts.rest
-      ∙ before-append_inner parts.front slot parts.back place apart (λ e. inner (e ∙ sym parts.next))
-      ∙ ap (λ xs. before xs place) (sym parts.whole)
+      ap (λ xs. before xs position) parts.rest
+      ∙ before-append_inner parts.front slot parts.back position apart (λ e. inner (e ∙ sym parts.next))
+      ∙ ap (λ xs. before xs position) (sym parts.whole)
 
--- ---- which places a list has
+-- ---- which positions a list has
 
-pub IsPlace-from_slot : (list : List ℕ) (place : Option ℕ) → ((slot : ℕ) → place ≡ Some slot → has list slot ≡ true) → IsPlace list place
-IsPlace-from_slot list None there = tt
-IsPlace-from_slot list (Some slot) there = there slot refl
+pub IsPosition-from_slot : (list : List ℕ) (position : Option ℕ) → ((slot : ℕ) → position ≡ Some slot → has list slot ≡ true) → IsPosition list position
+IsPosition-from_slot list None there = tt
+IsPosition-from_slot list (Some slot) there = there slot refl
 
-pub IsPlace-last : (list : List ℕ) → IsPlace list (last_of list)
-IsPlace-last list = IsPlace-from_slot list (last_of list) (λ slot last. has-last list slot last)
+pub IsPosition-last : (list : List ℕ) → IsPosition list (last_of list)
+IsPosition-last list = IsPosition-from_slot list (last_of list) (λ slot last. has-last list slot last)
 
--- a place of a list is the slot that came last, or a place of the list before it came
-pub IsPlace-push : (list : List ℕ) (slot : ℕ) (place : Option ℕ) → place ≢ Some slot → IsPlace (list ++ slot ∷ []) place → IsPlace list place
-IsPlace-push list slot None apart there = tt
-IsPlace-push list slot (Some other) apart there =
+-- a position of a list is the slot that came last, or a position of the list before it came
+pub IsPosition-push : (list : List ℕ) (slot : ℕ) (position : Option ℕ) → position ≢ Some slot → IsPosition (list ++ slot ∷ []) position → IsPosition list position
+IsPosition-push list slot None apart there = tt
+IsPosition-push list slot (Some other) apart there =
     let differ : (slot ≡ other → ⊥) = (λ e. apart (ap Some (sym e))) in
     grind (arith, nat_tests, has-append list (slot ∷ []) other, there)
 
-pub IsPlace-without : (slot : ℕ) (list : List ℕ) (place : Option ℕ) → IsPlace (without slot list) place → IsPlace list place
-IsPlace-without slot list None there = tt
-IsPlace-without slot list (Some other) there = grind (arith, nat_tests, has-without slot list other, there)
+pub IsPosition-without : (slot : ℕ) (list : List ℕ) (position : Option ℕ) → IsPosition (without slot list) position → IsPosition list position
+IsPosition-without slot list None there = tt
+IsPosition-without slot list (Some other) there = grind (arith, nat_tests, has-without slot list other, there)
 
-pub IsPlace-without_other : (slot : ℕ) (list : List ℕ) (place : Option ℕ) → IsPlace (without slot list) place → place ≢ Some slot
-IsPlace-without_other slot list None there = λ e. grind arith
-IsPlace-without_other slot list (Some other) there = λ e. grind (arith, nat_tests, has-without slot list other, there)
+pub IsPosition-without_other : (slot : ℕ) (list : List ℕ) (position : Option ℕ) → IsPosition (without slot list) position → position ≢ Some slot
+IsPosition-without_other slot list None there = λ e. grind arith
+IsPosition-without_other slot list (Some other) there = λ e. grind (arith, nat_tests, has-without slot list other, there)
 
 module _ (list : List ℕ) (slot : ℕ) (distinct : is_distinct list ≡ true) (there : has list slot ≡ true) where
   pub has-before_in : (other : ℕ) → before_in list slot ≡ Some other → has (without slot list) other ≡ true
@@ -212,8 +212,8 @@ module _ (list : List ℕ) (slot : ℕ) (distinct : is_distinct list ≡ true) (
       let back = has-first parts.back other (sym parts.next ∙ next) in
       rw parts.rest (has-append parts.front parts.back other ∙ ap (λ b. has parts.front other || b) back ∙ or_true (has parts.front other))
 
-  pub IsPlace-before_in : IsPlace (without slot list) (before_in list slot)
-  IsPlace-before_in = IsPlace-from_slot (without slot list) (before_in list slot) has-before_in
+  pub IsPosition-before_in : IsPosition (without slot list) (before_in list slot)
+  IsPosition-before_in = IsPosition-from_slot (without slot list) (before_in list slot) has-before_in
 
-  pub IsPlace-after_in : IsPlace (without slot list) (after_in list slot)
-  IsPlace-after_in = IsPlace-from_slot (without slot list) (after_in list slot) has-after_in
+  pub IsPosition-after_in : IsPosition (without slot list) (after_in list slot)
+  IsPosition-after_in = IsPosition-from_slot (without slot list) (after_in list slot) has-after_in
