@@ -1,8 +1,8 @@
 -- The laws of a lock table.
-use Rattle.std.specs.Prelude.{◌≡◌, true, false, if◌then◌else◌, List, [], Some, None, IsTrue}
+use Rattle.std.specs.Prelude.{◌≡◌, ◌≤◌, true, false, if◌then◌else◌, List, [], ◌++◌, Some, None, IsTrue}
 use Rattle.cl_types.specs.declared.operations.Mode.{Mode}
 use Rattle.cl_types.specs.declared.operations.TxnId.{TxnId}
-use Rattle.cl_types.specs.Modes.{is_conflict}
+use Rattle.cl_types.specs.Modes.{is_conflict, strength}
 use Rattle.cl_types.specs.Places.{Place, same_place}
 use Rattle.cl_types.specs.Transactions.{same_txn}
 use Rattle.cl_locks.specs.declared.locks.Locks.{Locks}
@@ -68,3 +68,14 @@ abbrev pub NoConflictIsFree : Type 0
 NoConflictIsFree = (locks : Locks) (txn : TxnId) (place : Place) (mode : Mode) →
     ((other : TxnId) → same_txn txn other ≡ false → is_conflict (held locks other place) (Some mode) ≡ false) →
     first_conflict (grants_at locks place) txn place mode ≡ None
+
+-- ---- of any list of grants
+
+-- a beginning of compatible grants is compatible
+abbrev pub BeginningIsCompatible : Type 0
+BeginningIsCompatible = (before after : List Grant) → IsTrue (are_compatible (before ++ after)) → IsTrue (are_compatible before)
+
+-- where a mode meets no conflict, no weaker mode meets one
+abbrev pub FreeForStrongerIsFree : Type 0
+FreeForStrongerIsFree = (grants : List Grant) (txn : TxnId) (place : Place) (weak strong : Mode) → strength (Some weak) ≤ strength (Some strong) →
+    first_conflict grants txn place strong ≡ None → first_conflict grants txn place weak ≡ None

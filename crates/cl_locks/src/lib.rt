@@ -10,5 +10,5 @@ mod tests;
 
 pub use answers::{Granted, LockRefused};
 pub use cl_types::Mode;
-pub use laws::{locks_are_sound, one_table};
+pub use laws::{grants_are_monotone, locks_are_sound, one_table};
 pub use locks::Locks;
