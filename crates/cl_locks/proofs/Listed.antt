@@ -16,6 +16,7 @@ use Rattle.cl_lists.proofs.SlotListLemmas.{has-append, has-without, has-head, sp
 use Rattle.cl_types.specs.declared.operations.TxnId.{TxnId}
 use Rattle.cl_types.specs.Places.{Place, same_place}
 use Rattle.cl_types.proofs.Places.{same_place-true, same_place-itself, same_place-symmetric}
+use Rattle.cl_locks.specs.declared.lock.TheConstants.{PLACE_LISTS, TXN_LISTS}
 use Rattle.cl_locks.specs.Grants.{Grant, at_place}
 use Rattle.cl_locks.specs.Listed.{place_list, txn_list, IsListed, IsKept, HasRoomFor, grants_on}
 use Rattle.cl_locks.proofs.GrantLists.{at_place-append, at_place-none, at_place-one, at_place-another, at_place-without, at_place-with}
@@ -85,16 +86,16 @@ list_of-exists granted side list slot on = elim (cases_lt list (list_count grant
   | inr past ↦ absurd (both_ways (has [] slot) refl (subst (λ slots. has slots slot ≡ true) (get_or_past (lists_on granted side) list [] past) on))
 ]
 
-pub place_list-below : (key : List ℕ) → place_list key < 1024
+pub place_list-below : (key : List ℕ) → place_list key < PLACE_LISTS
 unfolding place_list
 place_list-below key = omega arith
 
-pub txn_list-below : (txn : TxnId) → txn_list txn < 64
+pub txn_list-below : (txn : TxnId) → txn_list txn < TXN_LISTS
 unfolding txn_list
 txn_list-below txn = omega arith
 
 -- with all lists and a slot there is room for any grant
-pub HasRoomFor-all : (granted : Arena Grant) (grant : Grant) → 1024 ≤ list_count granted X → 64 ≤ list_count granted Y → 1 ≤ free_slots granted → HasRoomFor granted grant
+pub HasRoomFor-all : (granted : Arena Grant) (grant : Grant) → PLACE_LISTS ≤ list_count granted X → TXN_LISTS ≤ list_count granted Y → 1 ≤ free_slots granted → HasRoomFor granted grant
 HasRoomFor-all granted grant places txns slot = record {
   place = omega (arith, place_list-below grant.place.1);
   txn = omega (arith, txn_list-below grant.txn);

@@ -8,15 +8,16 @@ use Rattle.cl_lists.specs.SlotList.{IsOn}
 use Rattle.cl_types.specs.declared.operations.TxnId.{TxnId}
 use Rattle.cl_types.specs.Placement.{hash_of}
 use Rattle.cl_types.specs.Places.{Place}
+use Rattle.cl_locks.specs.declared.lock.TheConstants.{PLACE_LISTS, TXN_LISTS}
 use Rattle.cl_locks.specs.Grants.{Grant, at_place}
 
 -- the list of the places with a key
 unfoldable pub place_list : List ℕ → ℕ
-place_list key = hash_of key % 1024
+place_list key = hash_of key % PLACE_LISTS
 
 -- the list of a session's transactions
 unfoldable pub txn_list : TxnId → ℕ
-txn_list txn = txn.session % 64
+txn_list txn = txn.session % TXN_LISTS
 
 -- each lock is on the list of its place and on that of its transaction
 pub record IsListed (granted : Arena Grant) : Type 0 where

@@ -1,4 +1,4 @@
-//! One lock, and the lists on which it stands.
+//! One lock, and the lists that it is on.
 ghost use Rattle.std.specs.Prelude.{◌≡◌, ◌<◌, Some, ◌&&◌};
 ghost use Rattle.cl_types.specs.Modes.{is_conflict};
 ghost use Rattle.cl_types.specs.Places.{same_place};
@@ -6,14 +6,14 @@ ghost use Rattle.cl_types.specs.Transactions.{same_txn};
 ghost use Rattle.cl_locks.specs.Grants.{is_of, is_in_conflict};
 ghost use Rattle.cl_locks.specs.Listed as listed;
 
-use cl_types::{Key, Mode, TableName, TxnId, hash};
+use cl_types::{Key, Mode, SESSIONS_MAX, TableName, TxnId, hash};
 use std::marker::Model;
 
-/// How many lists the locks stand on by their keys.
+/// The number of lists by key.
 pub(crate) const PLACE_LISTS: u32 = 1024;
 
-/// How many lists the locks stand on by their sessions.
-pub(crate) const TXN_LISTS: u32 = 64;
+/// The number of lists by session: one for each.
+pub(crate) const TXN_LISTS: u32 = SESSIONS_MAX;
 
 /// The lock of a transaction at a place. Contracts see it as a grant.
 #[derive(Debug, Drop)]
