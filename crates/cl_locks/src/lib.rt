@@ -5,8 +5,6 @@ mod answers;
 mod laws;
 mod lock;
 mod locks;
-#[cfg(test)]
-mod tests;
 
 pub use answers::{Granted, LockRefused};
 pub use cl_types::Mode;
