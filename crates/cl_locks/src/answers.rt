@@ -1,4 +1,4 @@
-//! What a request for a lock is answered.
+//! The answers to a request for a lock.
 use cl_types::{NoMemory, TxnId};
 
 /// How a request was granted.
@@ -15,9 +15,9 @@ pub enum Granted {
 /// Why a request was refused. The locks are as they were.
 #[derive(Clone, Copy, Debug, PartialEq, Eq)]
 pub enum LockRefused {
-    /// The transaction is the first holder, in order of grant, of a lock in conflict.
+    /// The transaction is the first holder, in order of grant, of a conflicting lock.
     Held(TxnId),
-    /// Memory was wanting.
+    /// An allocation failed.
     NoMemory,
 }
 

@@ -15,8 +15,8 @@ use std::alloc::Global;
 /// The locks that transactions hold at the places of a replica, each a table and a key.
 ///
 /// Contracts see the grants at each place, in order of grant (`grants_at`), and which mode a
-/// transaction holds where (`held`). A lock stands on one of 1,024 lists by its key, and on one of
-/// 64 by its session. Sessions are 1 to 64, so such a list has the locks of one session.
+/// transaction holds where (`held`). A lock is on one of `PLACE_LISTS` lists by its key, and on one
+/// of `TXN_LISTS` by its session. There is one of these for each session.
 #[derive(Debug, Drop)]
 pub struct Locks {
     // Each lock is on the list of its key on side X, and on that of its session on side Y.
@@ -36,7 +36,7 @@ impl Locks {
     ghost use Rattle.cl_locks.specs.Grants.{own_grant, first_conflict, granted_as, with_grant, after_grant, without_txn};
     ghost use Rattle.cl_locks.specs.Table.{grants_at, held};
 
-    /// A table with no lock. It takes no memory.
+    /// A table with no lock. It allocates nothing.
     pub fn new(alloc: Global) -> Locks
         ensures { (place : Place) → grants_at result place ≡ [] }
     {
@@ -45,9 +45,9 @@ impl Locks {
         }
     }
 
-    /// Asks for a lock of the transaction at a place. It is granted or refused at once, and after a
-    /// refusal the locks are as they were. Only a new lock takes memory. It walks the list of the
-    /// key.
+    /// Requests a lock for the transaction at a place. The lock is granted or refused at once. After
+    /// a refusal the locks are as they were. Only a new lock allocates. The call walks the list of
+    /// the key.
     pub fn ask(
         &mut self,
         txn: TxnId,
@@ -93,7 +93,7 @@ impl Locks {
         }
     }
 
-    /// Takes away each lock of the transaction, and no other. It takes no memory, and walks the
+    /// Releases every lock of the transaction, and no other. It allocates nothing, and walks the
     /// list of the session.
     pub fn release(&mut self, txn: TxnId)
         ensures grants { (place : Place) → grants_at self.new place
@@ -158,7 +158,7 @@ impl Locks {
         None
     }
 
-    // Makes the lock at a slot as strong as the mode. A stronger lock stands last.
+    // Makes the lock at a slot as strong as the mode. A lock that became stronger comes last.
     fn strengthen(&mut self, slot: Slot, mode: Mode) -> Granted
         requires in_use { IsInUse self.old.granted slot }
         requires free { (grant : Grant) → item_at self.old.granted slot ≡ Some grant
@@ -190,7 +190,7 @@ impl Locks {
         make_room(&mut self.granted)
     }
 
-    // Puts a lock last.
+    // Appends a lock.
     fn push(&mut self, lock: Lock)
         requires room { HasRoomFor self.old.granted lock }
         requires only { own_grant (grants_at self.old lock.place) lock.txn lock.place ≡ None }
@@ -204,7 +204,7 @@ impl Locks {
         self.granted.push_back(x, y, lock);
     }
 
-    // Takes the lock at a slot away.
+    // Removes the lock at a slot.
     fn unlink(&mut self, slot: Slot) -> Lock
         requires { IsInUse self.old.granted slot }
         ensures unlinks { Unlinks self.old.granted self.new.granted slot result }
