@@ -3,14 +3,15 @@ use Rattle.std.proofs.Common.{◌≡◌, ◌≢◌, ◌⊎◌, ℕ, ◌<◌, Boo
 use Rattle.std.proofs.lemmas.List.{get_or_default}
 use Rattle.std.proofs.lemmas.Bool.Decides.{nat_tests}
 use Rattle.std.proofs.lemmas.Bool.{cases_eq}
+use Rattle.cl_lists.specs.declared.slots.Direction.TheVariants.{Forward, Backward}
 use Rattle.cl_lists.specs.declared.slots.Link.{Link}
 use Rattle.cl_lists.specs.declared.slots.Ends.{Ends}
 use Rattle.cl_lists.specs.SlotList.{has, is_distinct, last_of}
 use Rattle.cl_lists.specs.Lists.{list_at, appended}
-use Rattle.cl_lists.specs.Links.{IsInside, IsPosition, after, before, link_at, ends_at, next_at, prev_at, IsLinked, links_with_next, ends_with_next, ends_with_prev}
+use Rattle.cl_lists.specs.Links.{IsInside, IsPosition, after, before, link_at, ends_at, IsLinked, neighbour_at, links_with, ends_with}
 use Rattle.cl_lists.proofs.Linked.{cases_position, IsInside-linked, absent-linked, apart-linked, read_at_each}
 use Rattle.cl_lists.proofs.ListsLaws.{list_at-appended_same, list_at-appended_other, length-appended}
-use Rattle.cl_lists.proofs.LinkWrites.{length-links_with_next, length-ends_with_next, length-ends_with_prev, next_at-with_next, next_at-with_next_other, next_at-with_next_elsewhere, prev_at-with_next, list-with_next, prev_at-with_prev, prev_at-with_prev_other, prev_at-with_prev_elsewhere, next_at-with_prev}
+use Rattle.cl_lists.proofs.LinkWrites.{length-links_with, length-ends_with, neighbour_at-with, neighbour_at-with_other, neighbour_at-with_elsewhere, neighbour_at-with_reverse, list-with}
 use Rattle.cl_lists.proofs.Positions.{after-push_last, after-push_self, after-push_other, before-push_end, before-push_self, before-push_other, IsPosition-last, IsPosition-push}
 use Rattle.cl_lists.proofs.SlotListLemmas.{has-append, is_distinct-push}
 
@@ -29,12 +30,12 @@ IsLinked-set_free links ends used lists slot link linked free = record {
   next = next_kept;
   prev = prev_kept;
 } where
-  next_kept : (number : ℕ) (position : Option ℕ) → IsPosition (list_at lists number) position → next_at (set links slot link) ends number position ≡ after (list_at lists number) position
+  next_kept : (number : ℕ) (position : Option ℕ) → IsPosition (list_at lists number) position → neighbour_at Forward (set links slot link) ends number position ≡ after (list_at lists number) position
   next_kept number None there = linked.next number None there
   next_kept number (Some other) there =
       ap (λ l. l.next) (link_at-set_free links used slot link other free (linked.in_use number other there)) ∙ linked.next number (Some other) there
 
-  prev_kept : (number : ℕ) (position : Option ℕ) → IsPosition (list_at lists number) position → prev_at (set links slot link) ends number position ≡ before (list_at lists number) position
+  prev_kept : (number : ℕ) (position : Option ℕ) → IsPosition (list_at lists number) position → neighbour_at Backward (set links slot link) ends number position ≡ before (list_at lists number) position
   prev_kept number None there = linked.prev number None there
   prev_kept number (Some other) there =
       ap (λ l. l.prev) (link_at-set_free links used slot link other free (linked.in_use number other there)) ∙ linked.prev number (Some other) there
@@ -70,11 +71,11 @@ has-appended_old lists number slot exists n other there =
 abbrev links_appended : List Link → List Ends → ℕ → ℕ → List Link
 links_appended links ends number slot =
     let last = (ends_at ends number).last in
-    links_with_next (set links slot (record { prev = last; next = None; list = number })) last (Some slot)
+    links_with Forward (set links slot (record { prev = last; next = None; list = number })) last (Some slot)
 
 abbrev ends_appended : List Ends → ℕ → ℕ → List Ends
 ends_appended ends number slot =
-    ends_with_prev (ends_with_next ends number (ends_at ends number).last (Some slot)) number None (Some slot)
+    ends_with Backward (ends_with Forward ends number (ends_at ends number).last (Some slot)) number None (Some slot)
 
 module _ (links : List Link) (ends : List Ends) (used : List Bool) (lists : List (List ℕ)) (number slot : ℕ) (linked : IsLinked links ends used lists) (exists : number < length ends) (inside : slot < length links) (free : get_or used slot false ≡ false) where
   abbrev list : List ℕ
@@ -110,62 +111,62 @@ module _ (links : List Link) (ends : List Ends) (used : List Bool) (lists : List
   own = get_or-set_same links slot _ _ inside
 
   abbrev links2 : List Link
-  links2 = links_with_next links1 last (Some slot)
+  links2 = links_with Forward links1 last (Some slot)
 
   abbrev ends2 : List Ends
-  ends2 = ends_with_next ends number last (Some slot)
+  ends2 = ends_with Forward ends number last (Some slot)
 
   abbrev ends3 : List Ends
-  ends3 = ends_with_prev ends2 number None (Some slot)
+  ends3 = ends_with Backward ends2 number None (Some slot)
 
   inside_last : IsInside links1 ends number last
   inside_last = IsInside-linked links1 ends used lists linked1 number last exists (IsPosition-last list)
 
-  next_here : (position : Option ℕ) → IsPosition (list ++ slot ∷ []) position → next_at links2 ends2 number position ≡ after (list ++ slot ∷ []) position
+  next_here : (position : Option ℕ) → IsPosition (list ++ slot ∷ []) position → neighbour_at Forward links2 ends2 number position ≡ after (list ++ slot ∷ []) position
   next_here position there = elim (cases_position position last) [
-    | inl e ↦ subst (λ p. next_at links2 ends2 number p ≡ after (list ++ slot ∷ []) p) (sym e)
-        (next_at-with_next links1 ends number last (Some slot) inside_last ∙ sym (after-push_last list slot distinct (absent number)))
-    | inr outer ↦ next_at-with_next_other links1 ends number last (Some slot) number position outer
+    | inl e ↦ subst (λ p. neighbour_at Forward links2 ends2 number p ≡ after (list ++ slot ∷ []) p) (sym e)
+        (neighbour_at-with Forward links1 ends number last (Some slot) inside_last ∙ sym (after-push_last list slot distinct (absent number)))
+    | inr outer ↦ neighbour_at-with_other Forward links1 ends number last (Some slot) number position outer
         ∙ elim (cases_position position (Some slot)) [
-          | inl e ↦ subst (λ p. next_at links1 ends number p ≡ after (list ++ slot ∷ []) p) (sym e)
+          | inl e ↦ subst (λ p. neighbour_at Forward links1 ends number p ≡ after (list ++ slot ∷ []) p) (sym e)
               (ap (λ l. l.next) own ∙ sym (after-push_self list slot distinct (absent number)))
           | inr apart ↦ linked1.next number position (IsPosition-push list slot position apart there)
               ∙ sym (after-push_other list slot distinct (absent number) position apart outer)
         ]
   ]
 
-  next_elsewhere : (other : ℕ) → other ≢ number → (position : Option ℕ) → IsPosition (list_at lists other) position → next_at links2 ends2 other position ≡ after (list_at lists other) position
+  next_elsewhere : (other : ℕ) → other ≢ number → (position : Option ℕ) → IsPosition (list_at lists other) position → neighbour_at Forward links2 ends2 other position ≡ after (list_at lists other) position
   next_elsewhere other differ position there =
-      next_at-with_next_elsewhere links1 ends number last (Some slot) other position differ
+      neighbour_at-with_elsewhere Forward links1 ends number last (Some slot) other position differ
       (apart-linked links1 ends used lists linked1 number other last position differ (IsPosition-last list) there)
       ∙ linked1.next other position there
 
-  prev_here : (position : Option ℕ) → IsPosition (list ++ slot ∷ []) position → prev_at links2 ends3 number position ≡ before (list ++ slot ∷ []) position
+  prev_here : (position : Option ℕ) → IsPosition (list ++ slot ∷ []) position → neighbour_at Backward links2 ends3 number position ≡ before (list ++ slot ∷ []) position
   prev_here position there = elim (cases_position position None) [
-    | inl e ↦ subst (λ p. prev_at links2 ends3 number p ≡ before (list ++ slot ∷ []) p) (sym e)
-        (prev_at-with_prev links2 ends2 number None (Some slot) (subst (λ n. number < n) (sym (length-ends_with_next ends number last (Some slot))) exists)
+    | inl e ↦ subst (λ p. neighbour_at Backward links2 ends3 number p ≡ before (list ++ slot ∷ []) p) (sym e)
+        (neighbour_at-with Backward links2 ends2 number None (Some slot) (subst (λ n. number < n) (sym (length-ends_with Forward ends number last (Some slot))) exists)
         ∙ sym (before-push_end list slot distinct (absent number)))
-    | inr inner ↦ prev_at-with_prev_other links2 ends2 number None (Some slot) number position inner
-        ∙ prev_at-with_next links1 ends number last (Some slot) number position
+    | inr inner ↦ neighbour_at-with_other Backward links2 ends2 number None (Some slot) number position inner
+        ∙ neighbour_at-with_reverse Forward links1 ends number last (Some slot) number position
         ∙ elim (cases_position position (Some slot)) [
-          | inl e ↦ subst (λ p. prev_at links1 ends number p ≡ before (list ++ slot ∷ []) p) (sym e)
+          | inl e ↦ subst (λ p. neighbour_at Backward links1 ends number p ≡ before (list ++ slot ∷ []) p) (sym e)
               (ap (λ l. l.prev) own ∙ sym (before-push_self list slot distinct (absent number)))
           | inr apart ↦ linked1.prev number position (IsPosition-push list slot position apart there)
               ∙ sym (before-push_other list slot distinct (absent number) position apart inner)
         ]
   ]
 
-  prev_elsewhere : (other : ℕ) → other ≢ number → (position : Option ℕ) → IsPosition (list_at lists other) position → prev_at links2 ends3 other position ≡ before (list_at lists other) position
+  prev_elsewhere : (other : ℕ) → other ≢ number → (position : Option ℕ) → IsPosition (list_at lists other) position → neighbour_at Backward links2 ends3 other position ≡ before (list_at lists other) position
   prev_elsewhere other differ position there =
-      prev_at-with_prev_elsewhere links2 ends2 number None (Some slot) other position differ (λ s here none. grind (arith, none))
-      ∙ prev_at-with_next links1 ends number last (Some slot) other position
+      neighbour_at-with_elsewhere Backward links2 ends2 number None (Some slot) other position differ (λ s here none. grind (arith, none))
+      ∙ neighbour_at-with_reverse Forward links1 ends number last (Some slot) other position
       ∙ linked1.prev other position there
 
   exists' : number < length lists
   exists' = subst (λ n. number < n) (sym linked.as_many) exists
 
   list_kept : (other : ℕ) → (link_at links2 other).list ≡ (link_at links1 other).list
-  list_kept other = list-with_next links1 last (Some slot) other
+  list_kept other = list-with Forward links1 last (Some slot) other
 
   taken_before : (other : ℕ) → other ≢ slot → get_or taken other false ≡ get_or used other false
   taken_before other apart = get_or-set_other used slot other true false apart
@@ -194,16 +195,16 @@ module _ (links : List Link) (ends : List Ends) (used : List Bool) (lists : List
     | inr differ ↦ subst (λ xs. is_distinct xs ≡ true) (sym (list_at-appended_other lists number slot n differ)) (linked.distinct n)
   ]
 
-  next' : (n : ℕ) (position : Option ℕ) → IsPosition (list_at lists' n) position → next_at links2 ends3 n position ≡ after (list_at lists' n) position
-  next' n position there = next_at-with_prev links2 ends2 number None (Some slot) n position ∙ read_at_each lists lists' number _ here (list_at-appended_other lists number slot) (next_at links2 ends2) after next_here next_elsewhere n position there
+  next' : (n : ℕ) (position : Option ℕ) → IsPosition (list_at lists' n) position → neighbour_at Forward links2 ends3 n position ≡ after (list_at lists' n) position
+  next' n position there = neighbour_at-with_reverse Backward links2 ends2 number None (Some slot) n position ∙ read_at_each lists lists' number _ here (list_at-appended_other lists number slot) (neighbour_at Forward links2 ends2) after next_here next_elsewhere n position there
 
-  prev' : (n : ℕ) (position : Option ℕ) → IsPosition (list_at lists' n) position → prev_at links2 ends3 n position ≡ before (list_at lists' n) position
-  prev' n position there = read_at_each lists lists' number _ here (list_at-appended_other lists number slot) (prev_at links2 ends3) before prev_here prev_elsewhere n position there
+  prev' : (n : ℕ) (position : Option ℕ) → IsPosition (list_at lists' n) position → neighbour_at Backward links2 ends3 n position ≡ before (list_at lists' n) position
+  prev' n position there = read_at_each lists lists' number _ here (list_at-appended_other lists number slot) (neighbour_at Backward links2 ends3) before prev_here prev_elsewhere n position there
 
   linked2 : IsLinked links2 ends3 taken lists'
   linked2 = record {
-    as_many = length-appended lists number slot ∙ linked.as_many ∙ sym (length-ends_with_prev ends2 number None (Some slot) ∙ length-ends_with_next ends number last (Some slot));
-    as_long = length-set used slot true ∙ linked.as_long ∙ sym (length-links_with_next links1 last (Some slot) ∙ length-set links slot _);
+    as_many = length-appended lists number slot ∙ linked.as_many ∙ sym (length-ends_with Backward ends2 number None (Some slot) ∙ length-ends_with Forward ends number last (Some slot));
+    as_long = length-set used slot true ∙ linked.as_long ∙ sym (length-links_with Forward links1 last (Some slot) ∙ length-set links slot _);
     distinct = distinct';
     in_use = in_use';
     listed = listed';
@@ -215,7 +216,7 @@ module _ (links : List Link) (ends : List Ends) (used : List Bool) (lists : List
   pub IsLinked-appended : IsLinked (links_appended links ends number slot) (ends_appended ends number slot) taken lists'
   IsLinked-appended =
       let read : (ends_at ends number).last ≡ last = linked.prev number None tt in
-      subst (λ p. IsLinked (links_with_next (set links slot (record { prev = p; next = None; list = number })) p (Some slot)) (ends_with_prev (ends_with_next ends number p (Some slot)) number None (Some slot)) taken lists') (sym read) linked2
+      subst (λ p. IsLinked (links_with Forward (set links slot (record { prev = p; next = None; list = number })) p (Some slot)) (ends_with Backward (ends_with Forward ends number p (Some slot)) number None (Some slot)) taken lists') (sym read) linked2
 
 -- ---- as the writes leave the links and the ends, one after another
 
@@ -235,11 +236,11 @@ module _ (links : List Link) (ends : List Ends) (used : List Bool) (lists : List
       subst (λ ls. IsInside ls ends number last_read) (sym is_written)
       (IsInside-linked (set links slot link) ends used lists linked1 number last_read exists position)
 
-  pub IsLinked-append : slot < length links → (la lb lc : List Link) (ea eb : List Ends) → la ≡ set links slot (record { prev = last_read; next = None; list = number }) → lb ≡ links_with_next la last_read (Some slot) → lc ≡ lb → ea ≡ ends_with_next ends number last_read (Some slot) → eb ≡ ends_with_prev ea number None (Some slot) → IsLinked lc eb (set used slot true) (appended lists number slot)
+  pub IsLinked-append : slot < length links → (la lb lc : List Link) (ea eb : List Ends) → la ≡ set links slot (record { prev = last_read; next = None; list = number }) → lb ≡ links_with Forward la last_read (Some slot) → lc ≡ lb → ea ≡ ends_with Forward ends number last_read (Some slot) → eb ≡ ends_with Backward ea number None (Some slot) → IsLinked lc eb (set used slot true) (appended lists number slot)
   IsLinked-append inside la lb lc ea eb own next same ends_next ends_prev =
       let links_are : lc ≡ links_appended links ends number slot =
-      same ∙ next ∙ ap (λ ls. links_with_next ls last_read (Some slot)) own
-      ∙ ap (λ p. links_with_next (set links slot (record { prev = p; next = None; list = number })) p (Some slot)) last_is in
+      same ∙ next ∙ ap (λ ls. links_with Forward ls last_read (Some slot)) own
+      ∙ ap (λ p. links_with Forward (set links slot (record { prev = p; next = None; list = number })) p (Some slot)) last_is in
       let ends_are : eb ≡ ends_appended ends number slot =
-      ends_prev ∙ ap (λ es. ends_with_prev es number None (Some slot)) (ends_next ∙ ap (λ p. ends_with_next ends number p (Some slot)) last_is) in
+      ends_prev ∙ ap (λ es. ends_with Backward es number None (Some slot)) (ends_next ∙ ap (λ p. ends_with Forward ends number p (Some slot)) last_is) in
       rw (links_are, ends_are) (IsLinked-appended links ends used lists number slot linked exists inside free)

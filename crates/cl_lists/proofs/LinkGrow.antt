@@ -1,11 +1,13 @@
 -- The links still agree with the lists where empty lists and free slots come.
 use Rattle.std.proofs.Common.{◌≡◌, ℕ, zero, suc, ◌+◌, Bool, true, false, List, [], ◌∷◌, ◌++◌, Option, Some, None, length, get_or, replicate, refl, sym, ap, subst, ◌∙◌, arith, length-append}
 use Rattle.std.proofs.lemmas.List.{length_push, length-replicate}
+use Rattle.cl_lists.specs.declared.slots.Direction.{Direction}
+use Rattle.cl_lists.specs.declared.slots.Direction.TheVariants.{Forward, Backward}
 use Rattle.cl_lists.specs.declared.slots.Link.{Link}
 use Rattle.cl_lists.specs.declared.slots.Ends.{Ends}
 use Rattle.cl_lists.specs.SlotList.{has, is_distinct}
 use Rattle.cl_lists.specs.Lists.{list_at}
-use Rattle.cl_lists.specs.Links.{IsPosition, after, before, no_link, no_ends, link_at, ends_at, next_at, prev_at, IsLinked}
+use Rattle.cl_lists.specs.Links.{IsPosition, after, before, no_link, no_ends, link_at, ends_at, IsLinked, neighbour_at}
 
 pub IsLinked-none : IsLinked [] [] [] []
 unfolding is_distinct
@@ -19,11 +21,11 @@ IsLinked-none = record {
   next = next_none;
   prev = prev_none;
 } where
-  next_none : (number : ℕ) (position : Option ℕ) → IsPosition (list_at [] number) position → next_at [] [] number position ≡ after (list_at [] number) position
+  next_none : (number : ℕ) (position : Option ℕ) → IsPosition (list_at [] number) position → neighbour_at Forward [] [] number position ≡ after (list_at [] number) position
   next_none number None there = refl
   next_none number (Some slot) there = absurd (grind (arith, there))
 
-  prev_none : (number : ℕ) (position : Option ℕ) → IsPosition (list_at [] number) position → prev_at [] [] number position ≡ before (list_at [] number) position
+  prev_none : (number : ℕ) (position : Option ℕ) → IsPosition (list_at [] number) position → neighbour_at Backward [] [] number position ≡ before (list_at [] number) position
   prev_none number None there = refl
   prev_none number (Some slot) there = absurd (grind (arith, there))
 
@@ -44,16 +46,14 @@ IsLinked-same_reads links la ends ea used ua lists ls linked as_many as_long sam
   in_use = λ number slot there. same_used slot ∙ linked.in_use number slot (subst (λ xs. has xs slot ≡ true) (same_list number) there);
   listed = λ slot there. rw (same_link slot, same_list (link_at links slot).list) (linked.listed slot (sym (same_used slot) ∙ there));
   numbered = λ number slot there. ap (λ l. l.list) (same_link slot) ∙ linked.numbered number slot (subst (λ xs. has xs slot ≡ true) (same_list number) there);
-  next = λ number position there. rw (same_list number) (same_next number position ∙ linked.next number position (subst (λ xs. IsPosition xs position) (same_list number) there));
-  prev = λ number position there. rw (same_list number) (same_prev number position ∙ linked.prev number position (subst (λ xs. IsPosition xs position) (same_list number) there));
+  next = λ number position there. rw (same_list number) (same_neighbour Forward number position ∙ linked.next number position (subst (λ xs. IsPosition xs position) (same_list number) there));
+  prev = λ number position there. rw (same_list number) (same_neighbour Backward number position ∙ linked.prev number position (subst (λ xs. IsPosition xs position) (same_list number) there));
 } where
-  same_next : (number : ℕ) (position : Option ℕ) → next_at la ea number position ≡ next_at links ends number position
-  same_next number None = ap (λ e. e.first) (same_ends number)
-  same_next number (Some slot) = ap (λ l. l.next) (same_link slot)
-
-  same_prev : (number : ℕ) (position : Option ℕ) → prev_at la ea number position ≡ prev_at links ends number position
-  same_prev number None = ap (λ e. e.last) (same_ends number)
-  same_prev number (Some slot) = ap (λ l. l.prev) (same_link slot)
+  same_neighbour : (direction : Direction) (number : ℕ) (position : Option ℕ) → neighbour_at direction la ea number position ≡ neighbour_at direction links ends number position
+  same_neighbour Forward number None = ap (λ e. e.first) (same_ends number)
+  same_neighbour Forward number (Some slot) = ap (λ l. l.next) (same_link slot)
+  same_neighbour Backward number None = ap (λ e. e.last) (same_ends number)
+  same_neighbour Backward number (Some slot) = ap (λ l. l.prev) (same_link slot)
 
 length-more : {A : Type 0} (xs : List A) (n : ℕ) (d : A) → length (xs ++ replicate n d) ≡ length xs + n
 length-more xs n d = length-append xs (replicate n d) ∙ ap (λ m. length xs + m) (length-replicate n d)

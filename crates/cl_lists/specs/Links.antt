@@ -2,6 +2,8 @@
 use Rattle.std.specs.Prelude.{◌≡◌, ◌<◌, ℕ, zero, suc, Bool, true, false, List, [], ◌∷◌, map, length, Option, Some, None, slice_index_or, slice_set}
 use Rattle.cl_lists.specs.SlotList.{has, is_distinct, first_of, last_of, after_in, before_in}
 use Rattle.cl_lists.specs.Lists.{list_at}
+use Rattle.cl_lists.specs.declared.slots.Direction.{Direction}
+use Rattle.cl_lists.specs.declared.slots.Direction.TheVariants.{Forward, Backward}
 use Rattle.cl_lists.specs.declared.slots.Link.{Link}
 use Rattle.cl_lists.specs.declared.slots.Ends.{Ends}
 
@@ -33,14 +35,12 @@ link_at links slot = slice_index_or links slot no_link
 abbrev pub ends_at : List Ends → ℕ → Ends
 ends_at ends number = slice_index_or ends number no_ends
 
--- what the links say is the position after a position of a list, and the one before it
-abbrev pub next_at : List Link → List Ends → ℕ → Option ℕ → Option ℕ
-next_at links ends number None = (ends_at ends number).first
-next_at links ends number (Some slot) = (link_at links slot).next
-
-abbrev pub prev_at : List Link → List Ends → ℕ → Option ℕ → Option ℕ
-prev_at links ends number None = (ends_at ends number).last
-prev_at links ends number (Some slot) = (link_at links slot).prev
+-- what the links say is the neighbour of a position of a list
+abbrev pub neighbour_at : Direction → List Link → List Ends → ℕ → Option ℕ → Option ℕ
+neighbour_at Forward links ends number None = (ends_at ends number).first
+neighbour_at Forward links ends number (Some slot) = (link_at links slot).next
+neighbour_at Backward links ends number None = (ends_at ends number).last
+neighbour_at Backward links ends number (Some slot) = (link_at links slot).prev
 
 -- the links agree with the lists, and each slot in use is on just one of these
 pub record IsLinked (links : List Link) (ends : List Ends) (used : List Bool) (lists : List (List ℕ)) : Type 0 where
@@ -50,30 +50,24 @@ pub record IsLinked (links : List Link) (ends : List Ends) (used : List Bool) (l
   pub in_use : (number slot : ℕ) → has (list_at lists number) slot ≡ true → slice_index_or used slot false ≡ true
   pub listed : (slot : ℕ) → slice_index_or used slot false ≡ true → has (list_at lists (link_at links slot).list) slot ≡ true
   pub numbered : (number slot : ℕ) → has (list_at lists number) slot ≡ true → (link_at links slot).list ≡ number
-  pub next : (number : ℕ) (position : Option ℕ) → IsPosition (list_at lists number) position → next_at links ends number position ≡ after (list_at lists number) position
-  pub prev : (number : ℕ) (position : Option ℕ) → IsPosition (list_at lists number) position → prev_at links ends number position ≡ before (list_at lists number) position
+  pub next : (number : ℕ) (position : Option ℕ) → IsPosition (list_at lists number) position → neighbour_at Forward links ends number position ≡ after (list_at lists number) position
+  pub prev : (number : ℕ) (position : Option ℕ) → IsPosition (list_at lists number) position → neighbour_at Backward links ends number position ≡ before (list_at lists number) position
 
 -- the position is one that there is a link or an end for
 abbrev pub IsInside : List Link → List Ends → ℕ → Option ℕ → Type 0
 IsInside links ends number None = number < length ends
 IsInside links ends number (Some slot) = slot < length links
 
--- the links and the ends after a write of what comes after a position, or before it
-abbrev pub links_with_next : List Link → Option ℕ → Option ℕ → List Link
-links_with_next links None next = links
-links_with_next links (Some slot) next = slice_set links slot (record (link_at links slot) { next = next })
+-- the links and the ends after a write of the neighbour of a position
+abbrev pub links_with : Direction → List Link → Option ℕ → Option ℕ → List Link
+links_with direction links None neighbour = links
+links_with Forward links (Some slot) neighbour = slice_set links slot (record (link_at links slot) { next = neighbour })
+links_with Backward links (Some slot) neighbour = slice_set links slot (record (link_at links slot) { prev = neighbour })
 
-abbrev pub ends_with_next : List Ends → ℕ → Option ℕ → Option ℕ → List Ends
-ends_with_next ends number None next = slice_set ends number (record (ends_at ends number) { first = next })
-ends_with_next ends number (Some slot) next = ends
-
-abbrev pub links_with_prev : List Link → Option ℕ → Option ℕ → List Link
-links_with_prev links None prev = links
-links_with_prev links (Some slot) prev = slice_set links slot (record (link_at links slot) { prev = prev })
-
-abbrev pub ends_with_prev : List Ends → ℕ → Option ℕ → Option ℕ → List Ends
-ends_with_prev ends number None prev = slice_set ends number (record (ends_at ends number) { last = prev })
-ends_with_prev ends number (Some slot) prev = ends
+abbrev pub ends_with : Direction → List Ends → ℕ → Option ℕ → Option ℕ → List Ends
+ends_with direction ends number (Some slot) neighbour = ends
+ends_with Forward ends number None neighbour = slice_set ends number (record (ends_at ends number) { first = neighbour })
+ends_with Backward ends number None neighbour = slice_set ends number (record (ends_at ends number) { last = neighbour })
 
 -- the slots that the links lead to from a position on, so many at most
 unfoldable pub walk : List Link → ℕ → Option ℕ → List ℕ

@@ -2,9 +2,10 @@
 ghost use Rattle.std.specs.Prelude.{◌≡◌, ◌+◌, ◌^◌, ◌<◌, ◌++◌, true, false, length, replicate, slice_index_or, slice_set, vec_len, IsOk, OnOk, OnErr};
 ghost use Rattle.cl_lists.specs.Entries.{links_on, lists_on_side, used, AreLinked, DifferOn};
 ghost use Rattle.cl_lists.specs.Lists.{appended, removed};
-ghost use Rattle.cl_lists.specs.Links.{IsInside, IsLinked, no_ends, link_at, ends_at, links_with_next, links_with_prev, ends_with_next, ends_with_prev};
+ghost use Rattle.cl_lists.specs.Links.{IsInside, IsLinked, no_ends, link_at, ends_at, links_with, ends_with};
 
-use crate::slots::{Ends, Link, LinkedSlot, Side, Slot};
+use crate::slots::Direction::{Backward, Forward};
+use crate::slots::{Direction, Ends, Link, LinkedSlot, Side, Slot};
 use cl_types::NoMemory;
 
 // The links of a slot on one side.
@@ -24,49 +25,35 @@ fn set_link<T>(slots: &mut [LinkedSlot<T>], side: Side, slot: Slot, link: &Link)
     slots[slot.index].set_link(side, link);
 }
 
-// Writes what comes after a position of a list. `None` is the position before the first slot.
-fn set_next<T>(
+// Writes the neighbour of a position of a list. `None` is the position before the first slot and
+// after the last.
+fn set_neighbour<T>(
     slots: &mut [LinkedSlot<T>],
     ends: &mut [Ends],
     side: Side,
     list: u32,
+    direction: Direction,
     position: Option<Slot>,
-    next: Option<Slot>,
+    neighbour: Option<Slot>,
 )
     requires { IsInside (links_on side slots.old) ends.old list position }
-    ensures links { links_on side slots.new ≡ links_with_next (links_on side slots.old) position next }
-    ensures ends { ends.new ≡ ends_with_next ends.old list position next }
+    ensures links { links_on side slots.new ≡ links_with direction (links_on side slots.old) position neighbour }
+    ensures ends { ends.new ≡ ends_with direction ends.old list position neighbour }
     ensures rest { DifferOn side slots.old slots.new }
 {
-    match position {
-        Some(slot) => {
-            let old = link(slots, side, slot);
-            set_link(slots, side, slot, &Link { next, ..old });
+    match (position, direction) {
+        (Some(slot), Forward) => {
+            let mut link = link(slots, side, slot);
+            link.next = neighbour;
+            set_link(slots, side, slot, &link);
         }
-        None => ends[list as usize].first = next,
-    }
-}
-
-// Writes what comes before a position of a list. `None` is the position after the last slot.
-fn set_prev<T>(
-    slots: &mut [LinkedSlot<T>],
-    ends: &mut [Ends],
-    side: Side,
-    list: u32,
-    position: Option<Slot>,
-    prev: Option<Slot>,
-)
-    requires { IsInside (links_on side slots.old) ends.old list position }
-    ensures links { links_on side slots.new ≡ links_with_prev (links_on side slots.old) position prev }
-    ensures ends { ends.new ≡ ends_with_prev ends.old list position prev }
-    ensures rest { DifferOn side slots.old slots.new }
-{
-    match position {
-        Some(slot) => {
-            let old = link(slots, side, slot);
-            set_link(slots, side, slot, &Link { prev, ..old });
+        (Some(slot), Backward) => {
+            let mut link = link(slots, side, slot);
+            link.prev = neighbour;
+            set_link(slots, side, slot, &link);
         }
-        None => ends[list as usize].last = prev,
+        (None, Forward) => ends[list as usize].first = neighbour,
+        (None, Backward) => ends[list as usize].last = neighbour,
     }
 }
 
@@ -91,8 +78,8 @@ pub(crate) fn append<T>(
         list,
     };
     set_link(slots, side, slot, &link);
-    set_next(slots, ends, side, list, link.prev, Some(slot));
-    set_prev(slots, ends, side, list, link.next, Some(slot));
+    set_neighbour(slots, ends, side, list, Forward, link.prev, Some(slot));
+    set_neighbour(slots, ends, side, list, Backward, link.next, Some(slot));
 }
 
 // Removes a slot that is in use from its list of the side.
@@ -103,8 +90,8 @@ pub(crate) fn remove<T>(slots: &mut [LinkedSlot<T>], ends: &mut [Ends], side: Si
     ensures rest { DifferOn side slots.old slots.new }
 {
     let old = link(slots, side, slot);
-    set_next(slots, ends, side, old.list, old.prev, old.next);
-    set_prev(slots, ends, side, old.list, old.next, old.prev);
+    set_neighbour(slots, ends, side, old.list, Forward, old.prev, old.next);
+    set_neighbour(slots, ends, side, old.list, Backward, old.next, old.prev);
 }
 
 // The ends of a list, or those of an empty list if there is no such list.

@@ -10,6 +10,13 @@ pub enum Side {
     Y,
 }
 
+// Which neighbour on a list: the next slot or the previous one.
+#[derive(Clone, Copy, Debug)]
+pub(crate) enum Direction {
+    Forward,
+    Backward,
+}
+
 /// Names a slot of an arena. Contracts see its number.
 #[derive(Clone, Copy, Debug, PartialEq, Eq)]
 pub struct Slot {
