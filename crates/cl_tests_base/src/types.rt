@@ -1,4 +1,6 @@
 //! Tests of `cl_types`, with values from outside the program.
+use crate::types::Asked::{Add, Del, Get, Put};
+use crate::types::Replied::{Absent, Found, NotNumber, OutOfRange, Stored, Sum};
 use cl_samples::{NoSample, is_value, key, optional_value, table, value};
 use cl_types::{
     AppendOnlyList, GrowingList, Key, NoMemory, Op, Reply, TableName, Text, Value, apply_op,
@@ -80,11 +82,11 @@ fn is_key_copied(bytes: &[u8]) -> Result<bool, NoSample> {
     Ok(key.copy() == key && key.bytes() == bytes)
 }
 
-// Whether the value of these bytes has them, is copied, and is not that of the other bytes.
+// Whether the value of these bytes has them, is copied in both ways, and is not that of the other bytes.
 fn is_value_copied(alloc: Global, bytes: &[u8], other: &[u8]) -> Result<bool, NoSample> {
     let (cell, other) = (value(alloc, bytes)?, value(alloc, other)?);
-    let copied = copy_value(alloc, Some(&cell))?;
-    Ok(cell.bytes() == bytes && cell != other && copied == Some(cell))
+    let (alone, optional) = (cell.copy(alloc)?, copy_value(alloc, Some(&cell))?);
+    Ok(cell.bytes() == bytes && alone == cell && cell != other && optional == Some(cell))
 }
 
 #[test]
@@ -161,7 +163,7 @@ enum Asked<'a> {
 }
 
 // A reply, with the bytes of its value.
-#[derive(Clone, Copy, Debug)]
+#[derive(Clone, Copy)]
 enum Replied<'a> {
     Stored,
     Found(&'a [u8]),
@@ -173,21 +175,21 @@ enum Replied<'a> {
 
 fn op_of(alloc: Global, asked: Asked<'_>) -> Result<Op, NoSample> {
     Ok(match asked {
-        Asked::Get => Op::Get,
-        Asked::Put(bytes) => Op::Put(value(alloc, bytes)?),
-        Asked::Del => Op::Del,
-        Asked::Add(amount) => Op::Add(amount),
+        Get => Op::Get,
+        Put(bytes) => Op::Put(value(alloc, bytes)?),
+        Del => Op::Del,
+        Add(amount) => Op::Add(amount),
     })
 }
 
 fn reply_of(alloc: Global, replied: Replied<'_>) -> Result<Reply, NoSample> {
     Ok(match replied {
-        Replied::Stored => Reply::Stored,
-        Replied::Found(bytes) => Reply::Found(value(alloc, bytes)?),
-        Replied::Absent => Reply::Absent,
-        Replied::Sum(sum) => Reply::Sum(sum),
-        Replied::NotNumber => Reply::NotNumber,
-        Replied::OutOfRange => Reply::OutOfRange,
+        Stored => Reply::Stored,
+        Found(bytes) => Reply::Found(value(alloc, bytes)?),
+        Absent => Reply::Absent,
+        Sum(sum) => Reply::Sum(sum),
+        NotNumber => Reply::NotNumber,
+        OutOfRange => Reply::OutOfRange,
     })
 }
 
@@ -219,45 +221,20 @@ fn operations_reply_and_leave_what_is_written(rt: HostRuntime) -> Result<(), Fai
     let (x, y) = (Some(b"x".as_slice()), Some(b"y".as_slice()));
     // The operation, the value before it, the reply and the value after it.
     let rows = [
-        (Asked::Put(b"y"), x, Replied::Stored, y),
-        (Asked::Put(b"y"), None, Replied::Stored, y),
-        (Asked::Del, x, Replied::Stored, None),
-        (Asked::Del, None, Replied::Absent, None),
-        (Asked::Get, x, Replied::Found(b"x"), x),
-        (Asked::Get, None, Replied::Absent, None),
-        (Asked::Add(-3), None, Replied::Sum(-3), Some(b"-3")),
-        (
-            Asked::Add(-150),
-            Some(b"5000"),
-            Replied::Sum(4850),
-            Some(b"4850"),
-        ),
-        (
-            Asked::Add(1),
-            Some(BEFORE_LAST),
-            Replied::Sum(i64::MAX),
-            Some(LAST),
-        ),
-        (
-            Asked::Add(-1),
-            Some(AFTER_FIRST),
-            Replied::Sum(i64::MIN),
-            Some(FIRST),
-        ),
-        (
-            Asked::Add(1),
-            Some(b"007"),
-            Replied::NotNumber,
-            Some(b"007"),
-        ),
-        (Asked::Add(1), x, Replied::NotNumber, x),
-        (Asked::Add(1), Some(LAST), Replied::OutOfRange, Some(LAST)),
-        (
-            Asked::Add(-1),
-            Some(FIRST),
-            Replied::OutOfRange,
-            Some(FIRST),
-        ),
+        (Put(b"y"), x, Stored, y),
+        (Put(b"y"), None, Stored, y),
+        (Del, x, Stored, None),
+        (Del, None, Absent, None),
+        (Get, x, Found(b"x"), x),
+        (Get, None, Absent, None),
+        (Add(-3), None, Sum(-3), Some(b"-3")),
+        (Add(-150), Some(b"5000"), Sum(4850), Some(b"4850")),
+        (Add(1), Some(BEFORE_LAST), Sum(i64::MAX), Some(LAST)),
+        (Add(-1), Some(AFTER_FIRST), Sum(i64::MIN), Some(FIRST)),
+        (Add(1), Some(b"007"), NotNumber, Some(b"007")),
+        (Add(1), x, NotNumber, x),
+        (Add(1), Some(LAST), OutOfRange, Some(LAST)),
+        (Add(-1), Some(FIRST), OutOfRange, Some(FIRST)),
     ];
     for (asked, old, replied, new) in rows {
         assert!(rt;
