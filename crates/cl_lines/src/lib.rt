@@ -14,6 +14,3 @@ pub use line::{LINE_MAX, Line, LineFault, Unread};
 pub use out::Out;
 pub use printing::print_out;
 pub use reading::read_line;
-
-#[cfg(test)]
-mod tests;
