@@ -11,6 +11,7 @@ use Rattle.std.specs.Str.{bytes_eq}
 use Rattle.std.proofs.lemmas.Bool.{ltb-false, le-ltb}
 use Rattle.std.proofs.lemmas.Fmt.{decimal_digit}
 use Rattle.cl_types.specs.Names.{is_between, is_table_name, is_key, is_key_byte, is_value}
+use Rattle.cl_lines.specs.declared.line.TheConstants.{LINE_MAX}
 use Rattle.cl_lines.specs.declared.line.Line.{Line}
 use Rattle.cl_lines.specs.declared.line.Line.TheVariants.{Client}
 use Rattle.cl_lines.specs.declared.line.LineFault.{LineFault}
@@ -95,7 +96,7 @@ spelling_one : (command : Command) → spelling 1 command ≡ join_with_byte 32 
 unfolding spelling
 spelling_one command = ap (λ (word : List ℕ). join_with_byte 32 (word ∷ command_words command)) session_one
 
-spells_from_words : (bytes : List ℕ) (ws : List (List ℕ)) (session : ℕ) (command : Command) → length bytes ≤ 256 → words bytes ≡ ws → line_of_words ws ≡ Ok (Client session command) → Spells bytes session command
+spells_from_words : (bytes : List ℕ) (ws : List (List ℕ)) (session : ℕ) (command : Command) → length bytes ≤ LINE_MAX → words bytes ≡ ws → line_of_words ws ≡ Ok (Client session command) → Spells bytes session command
 spells_from_words bytes [] session command within cut e = absurd cc
 spells_from_words bytes (first ∷ others) session command within cut e =
     let parts = parts_from_line (session_number first) (command_of others) session command e in
@@ -111,14 +112,14 @@ spells_from_words bytes (first ∷ others) session command within cut e =
 pub spells_from_line : (bytes : List ℕ) (session : ℕ) (command : Command) → line_of bytes ≡ Ok (Client session command) → Spells bytes session command
 unfolding line_of
 spells_from_line bytes session command e =
-    let fits = not_long (ltb 256 (length bytes)) (line_of_words (words bytes)) (Client session command) e in
+    let fits = not_long (ltb LINE_MAX (length bytes)) (line_of_words (words bytes)) (Client session command) e in
     spells_from_words bytes (words bytes) session command (ltb-false _ _ fits.0) refl fits.1
 
 -- the spelling of a command is read as it
 pub line_from_spells : (bytes : List ℕ) (session : ℕ) (command : Command) → Spells bytes session command → line_of bytes ≡ Ok (Client session command)
 unfolding line_of
 line_from_spells bytes session command h =
-    let short : ltb 256 (length bytes) ≡ false = le-ltb _ _ h.within in
+    let short : ltb LINE_MAX (length bytes) ≡ false = le-ltb _ _ h.within in
     let spelled : bytes ≡ join_with_byte 32 (codes "1" ∷ command_words command) =
     h.bytes_are ∙ ap (λ (n : ℕ). spelling n command) h.session_is ∙ spelling_one command in
     let cut : words bytes ≡ codes "1" ∷ command_words command =

@@ -6,6 +6,7 @@ use Rattle.cl_types.specs.declared.operations.Op.TheVariants.{Get, Put, Del, Add
 use Rattle.cl_types.specs.declared.answers.Reply.TheVariants.{Found}
 use Rattle.cl_types.specs.declared.answers.Outcome.TheVariants.{Done}
 use Rattle.cl_types.specs.Names.{is_table_name, is_key, is_value}
+use Rattle.cl_lines.specs.declared.line.TheConstants.{LINE_MAX}
 use Rattle.cl_lines.specs.declared.line.Line.TheVariants.{Client}
 use Rattle.cl_lines.specs.declared.out.Out.{Out}
 use Rattle.cl_lines.specs.declared.out.Out.TheVariants.{Answer}
@@ -25,7 +26,7 @@ IsAskable Abort = ⊥
 
 -- the bytes are the line of this command in this session
 pub record Spells (bytes : List ℕ) (session : ℕ) (command : Command) : Type 0 where
-  pub within : length bytes ≤ 256
+  pub within : length bytes ≤ LINE_MAX
   pub session_is : session ≡ 1
   pub askable : IsAskable command
   pub bytes_are : bytes ≡ spelling session command

@@ -6,6 +6,7 @@ use Rattle.cl_types.specs.declared.operations.Command.TheVariants.{Begin, Work, 
 use Rattle.cl_types.specs.declared.operations.Op.{Op}
 use Rattle.cl_types.specs.declared.operations.Op.TheVariants.{Get, Put}
 use Rattle.cl_types.specs.Names.{is_table_name, is_key, is_value}
+use Rattle.cl_lines.specs.declared.line.TheConstants.{LINE_MAX}
 use Rattle.cl_lines.specs.declared.line.Line.{Line}
 use Rattle.cl_lines.specs.declared.line.Line.TheVariants.{Client}
 use Rattle.cl_lines.specs.declared.line.LineFault.{LineFault}
@@ -55,7 +56,7 @@ line_of_words (session ∷ others) = in_session (session_number session) (comman
 
 -- the line that the bytes are, or their fault
 unfoldable pub line_of : List ℕ → Result Line LineFault
-line_of bytes = if nat_lt 256 (length bytes) then Err Words else line_of_words (words bytes)
+line_of bytes = if nat_lt LINE_MAX (length bytes) then Err Words else line_of_words (words bytes)
 
 -- the session and the command of a reading that is a client line
 abbrev pub client_part : Result Line LineFault → Option (ℕ × Command)
@@ -75,7 +76,7 @@ fault_part (Err fault) = Some fault
 abbrev pub fault_of : List ℕ → Option LineFault
 fault_of bytes = fault_part (line_of bytes)
 
--- a reader answered what this reading is, or that memory is wanting
+-- a reader answered what this reading is, or that an allocation failed
 abbrev pub ReadsLine : {A : Type 0} → Result A Unread → Result A LineFault → Type 0
 ReadsLine (Ok value) reading = reading ≡ Ok value
 ReadsLine (Err (Fault fault)) reading = reading ≡ Err fault

@@ -1,13 +1,13 @@
-//! What a line is.
+//! Lines and their faults.
 ghost use Rattle.std.specs.Prelude.{◌≡◌};
 ghost use Rattle.cl_lines.specs.declared.line.Unread.TheVariants as answers;
 
 use cl_types::{Command, NoMemory};
 
-/// The most bytes of a line, without its newline.
+/// The most bytes in a line, without its newline.
 pub const LINE_MAX: usize = 256;
 
-/// A line that is well formed.
+/// A well-formed line.
 #[derive(Debug, PartialEq, Eq, Drop)]
 pub enum Line {
     /// A command in the session of that number.
@@ -21,10 +21,12 @@ pub enum LineFault {
     Words,
 }
 
-/// Why a line was not read.
+/// Why a line could not be read.
 #[derive(Clone, Copy, Debug, PartialEq, Eq)]
 pub enum Unread {
+    /// The line is not well formed.
     Fault(LineFault),
+    /// An allocation failed.
     NoMemory,
 }
 

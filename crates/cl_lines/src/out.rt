@@ -7,6 +7,6 @@ use cl_types::Outcome;
 pub enum Out {
     /// The outcome of a session's command.
     Answer(u32, Outcome),
-    /// The line of that number, counted from 1, is not well formed.
+    /// The line with this number, counted from 1, is not well formed.
     BadLine(u64, LineFault),
 }

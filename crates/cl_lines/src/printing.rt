@@ -1,4 +1,4 @@
-//! Printing an answer. Each function here writes at the end of the text that it is given.
+//! Printing an answer. Each `push_` function appends to the text.
 ghost use Rattle.std.specs.Prelude.{◌≡◌, ◌++◌, OnOk, IfOk};
 ghost use Rattle.std.specs.Fmt.{decimal, signed_decimal};
 ghost use Rattle.cl_lines.specs.Out.{txn_text, reply_text, cause_text, outcome_text, fault_text, printed, text_of};
@@ -114,7 +114,7 @@ fn push_out(text: &mut Vec<u8>, out: &Out) -> Result<(), NoMemory>
     }
 }
 
-/// What is printed, with its newline. It takes time and memory in proportion to the text.
+/// Prints one line, with its newline. It takes linear time and memory; no contract says so.
 #[tactic(auto, unfolding(crate::specs::Out::text_of))]
 pub fn print_out(alloc: Global, out: &Out) -> Result<Vec<u8>, NoMemory>
     ensures { IfOk result (λ text. text.items ≡ text_of out.now) }

@@ -7,7 +7,7 @@ use crate::{Command, LINE_MAX, Line, LineFault, Unread};
 use cl_types::{Key, Op, TableName, Value};
 use std::alloc::Global;
 
-// The line's words are none of its forms.
+// The answer where the words have no form.
 fn no_form<T>() -> Result<T, Unread>
     ensures { result ≡ Err (Unread.Fault LineFault.Words) }
 {
@@ -100,11 +100,12 @@ fn read_command(alloc: Global, mut words: Words<'_>) -> Result<Command, Unread>
     read_put(alloc, verb, table, key, value)
 }
 
-/// ReadsLine a line, given without its newline. By the form of its code it takes memory for the value of a PUT alone,
-/// and time in proportion to the line; no contract speaks of either.
+/// Reads a line, given without its newline.
+///
+/// It allocates for the value of a PUT alone and runs in linear time; no contract says so.
 #[tactic(auto, unfolding(crate::specs::Line::line_of))]
 pub fn read_line(alloc: Global, text: &[u8]) -> Result<Line, Unread>
-    // The line that the bytes are, or the fault that they have; want of memory may come at any line.
+    // The line that the bytes are, or their fault. An allocation may fail at any line.
     ensures { ReadsLine result (line_of text.now) }
 {
     if LINE_MAX < text.len() {

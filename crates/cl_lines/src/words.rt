@@ -6,7 +6,7 @@ ghost use Rattle.cl_lines.specs.Words.{words, words_after};
 
 use std::marker::Model;
 
-/// The words of a line, cut at each blank, that were not taken yet. Contracts see the list of them.
+/// The words of a line, cut at each blank, that are left. Contracts see the list of them.
 #[derive(Drop)]
 pub(crate) struct Words<'a> {
     rest: Option<&'a [u8]>,
@@ -22,14 +22,14 @@ impl<'a> Model for Words<'a> {
     ghost view = { λ words. words_after (option_copied words.rest) };
 }
 
-// The place of the first blank.
+// The index of the first blank.
 fn first_blank(line: &[u8]) -> Option<usize>
     ensures { result ≡ position (λ byte. byte == 32) line.now }
 {
     line.iter().position(|byte| *byte == b' ')
 }
 
-// The first word, and what stands after the blank behind it, if there is one.
+// The first word, and the rest after its blank, if it has one.
 fn cut_first_word(line: &[u8]) -> (&[u8], Option<&[u8]>)
     ensures { words line.now ≡ result.0.now ∷ words_after (option_copied result.1) }
 {
