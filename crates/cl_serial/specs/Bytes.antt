@@ -1,11 +1,12 @@
 -- The lines of the bytes that are read.
-use Rattle.std.specs.Prelude.{◌≡◌, ℕ, ◌++◌, List, [], ◌∷◌, ◌==◌, if◌then◌else◌, take, map}
+use Rattle.std.specs.Prelude.{◌≡◌, ℕ, ◌+◌, ◌++◌, List, [], ◌∷◌, ◌==◌, if◌then◌else◌, take, map}
 use Rattle.std.specs.List.{enumerate_from, onto_first}
+use Rattle.cl_lines.specs.declared.line.TheConstants.{LINE_MAX}
 use Rattle.cl_serial.specs.Transcript.{TranscriptEntry, fed_lines}
 
--- of a line that is too long the first 257 bytes are kept
+-- of a line that is too long one byte more than a line may have is kept
 abbrev pub kept_line : List ℕ → List ℕ
-kept_line line = take 257 line
+kept_line line = take (LINE_MAX + 1) line
 
 -- each line ends at a newline byte, or at the end where it is not empty
 unfoldable pub whole_lines : List ℕ → List (List ℕ)
