@@ -1,11 +1,11 @@
 -- Questions, answers and exchanges of a transcript with one more entry.
-use Rattle.std.proofs.Common.{◌≡◌, ℕ, suc, ◌+◌, ◌≤◌, List, [], ◌∷◌, ◌++◌, length, Some, None, refl, sym, ◌∙◌, ap, arith, append_assoc}
+use Rattle.std.proofs.Common.{◌≡◌, ℕ, suc, ◌+◌, ◌≤◌, List, [], ◌∷◌, ◌++◌, length, refl, sym, ◌∙◌, ap, arith, append_assoc}
 use Rattle.std.proofs.lemmas.List.{append-nil}
 use Rattle.cl_types.specs.declared.operations.Command.{Command}
 use Rattle.cl_types.specs.declared.answers.Outcome.{Outcome}
 use Rattle.cl_serial.specs.Transcript.{TranscriptEntry, fed, written, gather, fed_line, fed_lines}
 use Rattle.cl_lines.specs.declared.out.Out.{Out}
-use Rattle.cl_serial.specs.Exchanges.{Exchange, pair_up, in_turn}
+use Rattle.cl_serial.specs.Exchanges.{unanswered, answered, with_first_answered, pair_up, in_turn}
 
 -- what is gathered of two lists of entries, one behind the other
 pub gather-append : {A : Type 0} (pick : ℕ → TranscriptEntry → List A) (position : ℕ) (xs ys : List TranscriptEntry) → gather pick position (xs ++ ys) ≡ gather pick position xs ++ gather pick (position + length xs) ys
@@ -20,14 +20,6 @@ pub gather-push : {A : Type 0} (pick : ℕ → TranscriptEntry → List A) (xs :
 unfolding gather
 gather-push pick xs y = gather-append pick 0 xs (y ∷ []) ∙ ap (λ more. gather pick 0 xs ++ more) (append-nil (pick (0 + length xs) y) ∙ ap (λ n. pick n y) (omega arith))
 
--- an exchange without an answer
-abbrev pub unanswered : Command × ℕ → Exchange
-unanswered asked = record { command = asked.0; line = asked.1; answer = None }
-
--- an exchange with its answer
-abbrev pub answered : Command × ℕ → Outcome × ℕ → Exchange
-answered asked answer = record { command = asked.0; line = asked.1; answer = Some answer }
-
 -- a line adds an exchange without an answer
 pub pair_up-asked : (asked : List (Command × ℕ)) (given : List (Outcome × ℕ)) (one : Command × ℕ) → length given ≤ length asked → pair_up (asked ++ one ∷ []) given ≡ pair_up asked given ++ unanswered one ∷ []
 unfolding pair_up
@@ -35,11 +27,6 @@ pair_up-asked [] [] one h = refl
 pair_up-asked [] (a ∷ given) one h = absurd (omega arith)
 pair_up-asked (q ∷ asked) [] one h = ap (λ more. unanswered q ∷ more) (pair_up-asked asked [] one (omega arith))
 pair_up-asked (q ∷ asked) (a ∷ given) one h = ap (λ more. answered q a ∷ more) (pair_up-asked asked given one (omega arith))
-
--- the list with its first exchange that lacks an answer answered
-abbrev pub with_first_answered : Outcome × ℕ → List Exchange → List Exchange
-with_first_answered one [] = []
-with_first_answered one (exchange ∷ rest) = elim exchange.answer [ None ↦ answered (exchange.command, exchange.line) one ∷ rest | Some answer ↦ exchange ∷ with_first_answered one rest ]
 
 -- an answer fills the first exchange that lacks one
 pub pair_up-answered : (asked : List (Command × ℕ)) (given : List (Outcome × ℕ)) (one : Outcome × ℕ) → pair_up asked (given ++ one ∷ []) ≡ with_first_answered one (pair_up asked given)

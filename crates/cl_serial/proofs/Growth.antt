@@ -16,27 +16,27 @@ all_of session = session.ended ++ option_to_list session.current
 abbrev pub KeepsCommands : List Transaction → List Transaction → Type 0
 KeepsCommands old new = (number : ℕ) (exchange : Exchange) → IsIn (commands_in (numbered old number)) exchange → IsIn (commands_in (numbered new number)) exchange
 
-place_kept : (front : List Transaction) (more : List Transaction) (k : ℕ) (exchange : Exchange) → IsIn (commands_in (slice_get front k)) exchange → IsIn (commands_in (slice_get (front ++ more) k)) exchange
-place_kept [] more k exchange h = absurd (IsIn-nil exchange h)
-place_kept (x ∷ front) more zero exchange h = h
-place_kept (x ∷ front) more (suc k) exchange h = place_kept front more k exchange h
+kept_at : (front : List Transaction) (more : List Transaction) (k : ℕ) (exchange : Exchange) → IsIn (commands_in (slice_get front k)) exchange → IsIn (commands_in (slice_get (front ++ more) k)) exchange
+kept_at [] more k exchange h = absurd (IsIn-nil exchange h)
+kept_at (x ∷ front) more zero exchange h = h
+kept_at (x ∷ front) more (suc k) exchange h = kept_at front more k exchange h
 
 -- more transactions follow
 KeepsCommands-append : (front more : List Transaction) → KeepsCommands front (front ++ more)
 KeepsCommands-append front more zero exchange h = absurd (IsIn-nil exchange h)
-KeepsCommands-append front more (suc k) exchange h = place_kept front more k exchange h
+KeepsCommands-append front more (suc k) exchange h = kept_at front more k exchange h
 
-place_replaced : (front : List Transaction) (current : Transaction) (one : Exchange) (k : ℕ) (exchange : Exchange) → IsIn (commands_in (slice_get (front ++ current ∷ []) k)) exchange →
+replaced_at : (front : List Transaction) (current : Transaction) (one : Exchange) (k : ℕ) (exchange : Exchange) → IsIn (commands_in (slice_get (front ++ current ∷ []) k)) exchange →
     IsIn (commands_in (slice_get (front ++ with_command current one ∷ []) k)) exchange
-place_replaced [] current one zero exchange h = IsIn-append_left current.commands (one ∷ []) exchange h
-place_replaced [] current one (suc k) exchange h = absurd (IsIn-nil exchange h)
-place_replaced (x ∷ front) current one zero exchange h = h
-place_replaced (x ∷ front) current one (suc k) exchange h = place_replaced front current one k exchange h
+replaced_at [] current one zero exchange h = IsIn-append_left current.commands (one ∷ []) exchange h
+replaced_at [] current one (suc k) exchange h = absurd (IsIn-nil exchange h)
+replaced_at (x ∷ front) current one zero exchange h = h
+replaced_at (x ∷ front) current one (suc k) exchange h = replaced_at front current one k exchange h
 
 -- the last transaction has one more command
 KeepsCommands-with_command : (front : List Transaction) (current : Transaction) (one : Exchange) → KeepsCommands (front ++ current ∷ []) (front ++ with_command current one ∷ [])
 KeepsCommands-with_command front current one zero exchange h = absurd (IsIn-nil exchange h)
-KeepsCommands-with_command front current one (suc k) exchange h = place_replaced front current one k exchange h
+KeepsCommands-with_command front current one (suc k) exchange h = replaced_at front current one k exchange h
 
 -- the same list, but for an empty end
 same_but_nil : (old new : List Transaction) → KeepsCommands old new → KeepsCommands old (new ++ [])

@@ -6,3 +6,4 @@ pub mod Places
 pub mod PlainMapLemmas
 pub mod Replayed
 pub mod SameSession
+pub mod Steps

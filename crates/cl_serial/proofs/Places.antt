@@ -1,4 +1,4 @@
--- Places of a list, and of one that has grown.
+-- Positions in a list, and in one that has grown.
 use Rattle.std.proofs.Common.{◌≡◌, ℕ, zero, suc, ◌<◌, ◌⊎◌, inl, inr, List, [], ◌∷◌, ◌++◌, length, Some, None, refl, ap, arith}
 use Rattle.cl_serial.specs.Serial.{StandsAt, IsIn}
 
@@ -20,13 +20,13 @@ StandsAt-push [] y (suc i) x h = absurd (cc)
 StandsAt-push (z ∷ xs) y zero x h = inl h
 StandsAt-push (z ∷ xs) y (suc i) x h = elim (StandsAt-push xs y i x h) [ inl old ↦ inl old | inr new ↦ inr (ap suc new.0, new.1) ]
 
--- a place is below the length
+-- a position is below the length
 pub StandsAt-within : {X : Type 0} (xs : List X) (i : ℕ) (x : X) → StandsAt xs i x → i < length xs
 StandsAt-within [] i x h = absurd (cc)
 StandsAt-within (y ∷ xs) zero x h = omega arith
 StandsAt-within (y ∷ xs) (suc i) x h = omega (arith, StandsAt-within xs i x h)
 
--- one item stands at a place
+-- one item stands at a position
 pub StandsAt-one : {X : Type 0} (xs : List X) (i : ℕ) (x y : X) → StandsAt xs i x → StandsAt xs i y → x ≡ y
 StandsAt-one xs i x y h k = cc
 

@@ -1,5 +1,5 @@
 -- A session of which one transcript says what another does: what was promised of it there holds here.
-use Rattle.std.proofs.Common.{◌≡◌, ℕ, ◌<◌, List, length, take, Some, IsSome, sym, ◌∙◌, ap, subst}
+use Rattle.std.proofs.Common.{◌≡◌, ℕ, ◌<◌, List, take, Some, IsSome, sym, ◌∙◌, ap, subst}
 use Rattle.cl_types.specs.declared.operations.Command.{Command}
 use Rattle.cl_types.specs.declared.answers.Outcome.{Outcome}
 use Rattle.cl_serial.specs.Transcript.{TranscriptEntry, questions, answers}

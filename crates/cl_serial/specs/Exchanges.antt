@@ -1,5 +1,5 @@
 -- The exchanges of a session: its lines and their answers.
-use Rattle.std.specs.Prelude.{ℕ, List, [], ◌∷◌, Option, Some, None}
+use Rattle.std.specs.Prelude.{ℕ, List, [], ◌∷◌, Option, Some, None, IsSome, All}
 use Rattle.cl_types.specs.declared.operations.Command.{Command}
 use Rattle.cl_types.specs.declared.answers.Outcome.{Outcome}
 use Rattle.cl_serial.specs.Transcript.{TranscriptEntry, questions, answers}
@@ -10,11 +10,23 @@ pub record Exchange : Type 0 where
   pub line : ℕ
   pub answer : Option (Outcome × ℕ)
 
+-- an exchange without an answer: the command, and the position of its line
+abbrev pub unanswered : Command × ℕ → Exchange
+unanswered asked = record { command = asked.0; line = asked.1; answer = None }
+
+-- an exchange with its answer
+abbrev pub answered : Command × ℕ → Outcome × ℕ → Exchange
+answered asked answer = record { command = asked.0; line = asked.1; answer = Some answer }
+
+-- each exchange has its answer
+abbrev pub AreAnswered : List Exchange → Type 0
+AreAnswered list = All (λ exchange. IsSome exchange.answer) list
+
 -- the k-th command is answered by the k-th answer
 unfoldable pub pair_up : List (Command × ℕ) → List (Outcome × ℕ) → List Exchange
 pair_up [] given = []
-pair_up (asked ∷ rest) [] = record { command = asked.0; line = asked.1; answer = None } ∷ pair_up rest []
-pair_up (asked ∷ rest) (answer ∷ given) = record { command = asked.0; line = asked.1; answer = Some answer } ∷ pair_up rest given
+pair_up (asked ∷ rest) [] = unanswered asked ∷ pair_up rest []
+pair_up (asked ∷ rest) (answer ∷ given) = answered asked answer ∷ pair_up rest given
 
 -- the exchanges of a session, in the order of its lines
 abbrev pub exchanges : ℕ → List TranscriptEntry → List Exchange
@@ -33,3 +45,8 @@ after_answer (Some answer) rest = rest
 unfoldable pub in_turn : List Exchange → List Exchange
 in_turn [] = []
 in_turn (exchange ∷ rest) = exchange ∷ after_answer exchange.answer (in_turn rest)
+
+-- the exchanges, where the first without an answer has this one
+abbrev pub with_first_answered : Outcome × ℕ → List Exchange → List Exchange
+with_first_answered answer [] = []
+with_first_answered answer (exchange ∷ rest) = elim exchange.answer [ None ↦ answered (exchange.command, exchange.line) answer ∷ rest | Some before ↦ exchange ∷ with_first_answered answer rest ]

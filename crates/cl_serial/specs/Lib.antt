@@ -5,3 +5,4 @@ pub mod PlainMap
 pub mod PlainMapModel
 pub mod Serial
 pub mod Bytes
+pub mod Laws

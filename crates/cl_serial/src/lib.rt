@@ -1,8 +1,10 @@
-//! What a run said and what it must mean: the transcript, the history, and the plain map.
+//! What a run said and what it must mean: the transcript, the history, the plain map and their laws.
 #![tactic(auto)]
 
+mod laws;
 mod plain_map;
 mod transcript;
 
+pub use laws::{one_more_answer, one_more_entry, one_more_question, replays_join};
 pub use plain_map::PlainMap;
 pub use transcript::{History, Said, Transcript};

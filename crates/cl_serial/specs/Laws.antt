@@ -1,0 +1,66 @@
+-- The laws of transcripts and replays: what one more entry extends, and how replays join.
+use Rattle.std.specs.Prelude.{◌≡◌, ℕ, ◌≤◌, List, [], ◌∷◌, ◌++◌, length, Some, ◌↔◌}
+use Rattle.cl_types.specs.declared.operations.Command.{Command}
+use Rattle.cl_types.specs.declared.operations.TxnId.{TxnId}
+use Rattle.cl_types.specs.declared.answers.Outcome.{Outcome}
+use Rattle.cl_lines.specs.declared.out.Out.TheVariants.{Answer}
+use Rattle.cl_lines.specs.Line.{client_of}
+use Rattle.cl_serial.specs.Transcript.{TranscriptEntry, fed, written, asked_in, answered_in, questions, answers}
+use Rattle.cl_serial.specs.Exchanges.{Exchange, unanswered, answered, AreAnswered, exchanges, with_first_answered}
+use Rattle.cl_serial.specs.Transactions.{session_step, session_after, session_state}
+use Rattle.cl_serial.specs.PlainMap.{Values, Operation, after_operations, RepliesAgree}
+use Rattle.cl_serial.specs.Serial.{operations_of, values_after}
+
+-- one more entry adds to a session's questions the command that it asks, with its position
+abbrev pub EntryAddsItsQuestion : Type 0
+EntryAddsItsQuestion = (session : ℕ) (transcript : List TranscriptEntry) (entry : TranscriptEntry) →
+    questions session (transcript ++ entry ∷ []) ≡ questions session transcript ++ asked_in session (length transcript) entry
+
+-- and to its answers the outcome that it writes
+abbrev pub EntryAddsItsAnswer : Type 0
+EntryAddsItsAnswer = (session : ℕ) (transcript : List TranscriptEntry) (entry : TranscriptEntry) →
+    answers session (transcript ++ entry ∷ []) ≡ answers session transcript ++ answered_in session (length transcript) entry
+
+-- an entry that neither asks nor answers in a session leaves its exchanges
+abbrev pub OtherEntryLeavesExchanges : Type 0
+OtherEntryLeavesExchanges = (session : ℕ) (transcript : List TranscriptEntry) (entry : TranscriptEntry) →
+    asked_in session (length transcript) entry ≡ [] → answered_in session (length transcript) entry ≡ [] →
+    exchanges session (transcript ++ entry ∷ []) ≡ exchanges session transcript
+
+-- a question adds an exchange without an answer, where there are no more answers than questions
+abbrev pub QuestionAddsExchange : Type 0
+QuestionAddsExchange = (session : ℕ) (transcript : List TranscriptEntry) (number : ℕ) (text : List ℕ) (command : Command) →
+    client_of text ≡ Some (session, command) → length (answers session transcript) ≤ length (questions session transcript) →
+    exchanges session (transcript ++ fed number text ∷ []) ≡ exchanges session transcript ++ unanswered (command, length transcript) ∷ []
+
+-- and takes the session one step on, where each question before has its answer
+abbrev pub QuestionStepsSession : Type 0
+QuestionStepsSession = (session : ℕ) (transcript : List TranscriptEntry) (number : ℕ) (text : List ℕ) (command : Command) →
+    client_of text ≡ Some (session, command) → length (answers session transcript) ≡ length (questions session transcript) →
+    session_state session (transcript ++ fed number text ∷ []) ≡ session_step (session_state session transcript) (unanswered (command, length transcript))
+
+-- an answer fills the first exchange without one
+abbrev pub AnswerFillsExchange : Type 0
+AnswerFillsExchange = (session : ℕ) (transcript : List TranscriptEntry) (outcome : Outcome) →
+    exchanges session (transcript ++ written (Answer session outcome) ∷ []) ≡ with_first_answered (outcome, length transcript) (exchanges session transcript)
+
+-- and where that is the last exchange, the step of its question becomes the step of both
+abbrev pub AnswerStepsSession : Type 0
+AnswerStepsSession = (session : ℕ) (transcript : List TranscriptEntry) (outcome : Outcome) (before : List Exchange) (asked : Command × ℕ) →
+    AreAnswered before → exchanges session transcript ≡ before ++ unanswered asked ∷ [] →
+    session_state session (transcript ++ written (Answer session outcome) ∷ []) ≡ session_step (session_after before) (answered asked (outcome, length transcript))
+
+-- the operations of a history are those of its front and then those of its back
+abbrev pub HistoriesJoin : Type 0
+HistoriesJoin = (transcript : List TranscriptEntry) (front back : List TxnId) →
+    operations_of transcript (front ++ back) ≡ operations_of transcript front ++ operations_of transcript back
+
+-- the map after a history is its back's replay on the map after its front
+abbrev pub BackReplaysAfterFront : Type 0
+BackReplaysAfterFront = (transcript : List TranscriptEntry) (front back : List TxnId) →
+    values_after transcript (front ++ back) ≡ after_operations (values_after transcript front) (operations_of transcript back)
+
+-- operations give their replies exactly where the front does on the map, and the back on the map after the front
+abbrev pub RepliesJoin : Type 0
+RepliesJoin = (values : Values) (front back : List Operation) →
+    RepliesAgree values (front ++ back) ↔ (RepliesAgree values front × RepliesAgree (after_operations values front) back)

@@ -1,0 +1,28 @@
+//! The laws of transcripts and replays. A law is the contract of a function that does nothing.
+ghost use Rattle.cl_serial.specs.Laws.{EntryAddsItsQuestion, EntryAddsItsAnswer, OtherEntryLeavesExchanges, QuestionAddsExchange, QuestionStepsSession, AnswerFillsExchange, AnswerStepsSession, HistoriesJoin, BackReplaysAfterFront, RepliesJoin};
+
+/// One more entry adds to each session what it asks and answers there, and nothing else.
+pub fn one_more_entry()
+    ensures question { EntryAddsItsQuestion }
+    ensures answer { EntryAddsItsAnswer }
+    ensures neither { OtherEntryLeavesExchanges }
+{}
+
+/// One more question adds an exchange, and takes its session one step on.
+pub fn one_more_question()
+    ensures exchange { QuestionAddsExchange }
+    ensures session { QuestionStepsSession }
+{}
+
+/// One more answer fills the first exchange without one, and completes the step of its question.
+pub fn one_more_answer()
+    ensures exchange { AnswerFillsExchange }
+    ensures session { AnswerStepsSession }
+{}
+
+/// The replay of a history is the replay of its back on the map after its front.
+pub fn replays_join()
+    ensures operations { HistoriesJoin }
+    ensures values { BackReplaysAfterFront }
+    ensures replies { RepliesJoin }
+{}
