@@ -1,4 +1,4 @@
-//! The map on which a replay does the operations: a value at each of finitely many places.
+//! The plain map: a value at each of finitely many places.
 ghost use Rattle.std.specs.Prelude.{◌≡◌, IfOk, OnOk, OnErr};
 ghost use Rattle.std.specs.BTreeMap.{get as found_at, IsUnchanged};
 ghost use Rattle.std.specs.FinMap as map;
@@ -12,7 +12,7 @@ use std::alloc::Global;
 use std::collections::BTreeMap;
 use std::marker::Model;
 
-// A table and a key, in the order of the map. Contracts see the place that they name.
+// A table and a key, in the map's order. Contracts see the place that they name.
 #[derive(Debug, PartialEq, Eq, PartialOrd, Ord, Drop)]
 struct RecordPlace {
     table: TableName,
@@ -30,6 +30,9 @@ impl Model for RecordPlace {
 }
 
 /// A map from places, each a table and a key, to values. Contracts see it as a finite map.
+///
+/// The server runs on it today: each command is done on one `PlainMap`, in the order of the lines. The guarantee
+/// replays a history on the same map.
 #[derive(Debug, Drop)]
 pub struct PlainMap {
     values: BTreeMap<RecordPlace, Value>,
@@ -49,7 +52,7 @@ impl Model for PlainMap {
     ghost view = { λ plain. map.from_entries plain.values.entries };
 }
 
-// The place has the value afterwards, or nothing where there is none.
+// Stores the value at the place, or removes what is there where none is given.
 fn set_or_remove(
     values: &mut BTreeMap<RecordPlace, Value>,
     place: RecordPlace,
@@ -72,7 +75,7 @@ fn set_or_remove(
 }
 
 impl PlainMap {
-    /// The map without a value. It takes no memory.
+    /// Makes an empty map. It allocates nothing.
     pub fn new(alloc: Global) -> PlainMap
         ensures { result ≡ map.empty }
     {
@@ -82,8 +85,9 @@ impl PlainMap {
         }
     }
 
-    /// Does an operation on the value at its place, absent or there, and answers its reply.
-    /// After an `Err` each place has what it had.
+    /// Does an operation on the value at its place, if there is one, and returns its reply.
+    ///
+    /// An `Err` means that an allocation failed, and leaves the map unchanged.
     pub fn apply(&mut self, table: &TableName, key: &Key, op: &Op) -> Result<Reply, NoMemory>
         ensures reply { let place = place_of table.now key.now in
             IfOk result (λ reply. reply ≡ plain_reply op.now (value_at self.old place)) }
@@ -102,111 +106,10 @@ impl PlainMap {
         Ok(reply)
     }
 
-    /// How many places have a value.
+    /// Returns how many places have a value.
     pub fn count(&self) -> usize
         ensures { result ≡ map.len self.now }
     {
         self.values.len()
-    }
-}
-
-#[cfg(test)]
-mod tests {
-    use super::*;
-    use std::test::Fail;
-
-    fn table(bytes: &[u8]) -> Result<TableName, Fail> {
-        Ok(TableName::read(bytes).ok_or("no table's name")?)
-    }
-
-    fn key(bytes: &[u8]) -> Result<Key, Fail> {
-        Ok(Key::read(bytes).ok_or("no key")?)
-    }
-
-    fn value(alloc: Global, bytes: &[u8]) -> Result<Value, Fail> {
-        Ok(Value::read(alloc, bytes)?.ok_or("no value")?)
-    }
-
-    #[test]
-    fn a_get_finds_what_was_put(rt: HostRuntime) -> Result<(), Fail> {
-        let (table, key) = (table(b"stock")?, key(b"bolt")?);
-        let put = Op::Put(value(rt.alloc(), b"12")?);
-        let mut plain = PlainMap::new(rt.alloc());
-        assert_eq!(rt; plain.apply(&table, &key, &put)?, Reply::Stored);
-        assert_eq!(rt;
-            plain.apply(&table, &key, &Op::Get)?,
-            Reply::Found(value(rt.alloc(), b"12")?)
-        );
-        Ok(())
-    }
-
-    #[test]
-    fn a_get_of_nothing_is_absent(rt: HostRuntime) -> Result<(), Fail> {
-        let (table, key) = (table(b"stock")?, key(b"bolt")?);
-        let mut plain = PlainMap::new(rt.alloc());
-        assert_eq!(rt; plain.apply(&table, &key, &Op::Get)?, Reply::Absent);
-        assert_eq!(rt; plain.count(), 0);
-        Ok(())
-    }
-
-    #[test]
-    fn a_second_put_replaces_the_first(rt: HostRuntime) -> Result<(), Fail> {
-        let (table, key) = (table(b"stock")?, key(b"bolt")?);
-        let first = Op::Put(value(rt.alloc(), b"12")?);
-        let second = Op::Put(value(rt.alloc(), b"13")?);
-        let mut plain = PlainMap::new(rt.alloc());
-        assert_eq!(rt; plain.apply(&table, &key, &first)?, Reply::Stored);
-        assert_eq!(rt; plain.apply(&table, &key, &second)?, Reply::Stored);
-        assert_eq!(rt; plain.count(), 1);
-        assert_eq!(rt;
-            plain.apply(&table, &key, &Op::Get)?,
-            Reply::Found(value(rt.alloc(), b"13")?)
-        );
-        Ok(())
-    }
-
-    #[test]
-    fn a_deletion_leaves_nothing(rt: HostRuntime) -> Result<(), Fail> {
-        let (table, key) = (table(b"stock")?, key(b"bolt")?);
-        let mut plain = PlainMap::new(rt.alloc());
-        assert_eq!(rt; plain.apply(&table, &key, &Op::Add(12))?, Reply::Sum(12));
-        assert_eq!(rt; plain.count(), 1);
-        assert_eq!(rt; plain.apply(&table, &key, &Op::Del)?, Reply::Stored);
-        assert_eq!(rt; plain.count(), 0);
-        assert_eq!(rt; plain.apply(&table, &key, &Op::Del)?, Reply::Absent);
-        Ok(())
-    }
-
-    // Where an allocation fails, the place has what it had, and the operation is done then.
-    #[test]
-    fn a_want_of_memory_leaves_the_map(rt: HostRuntime) -> Result<(), Fail> {
-        let (table, key) = (table(b"stock")?, key(b"bolt")?);
-        let add = Op::Add(12);
-        let mut plain = PlainMap::new(rt.alloc());
-        if plain.apply(&table, &key, &add).is_err() {
-            assert_eq!(rt; plain.count(), 0);
-            assert_eq!(rt; plain.apply(&table, &key, &add)?, Reply::Sum(12));
-        }
-        if plain.apply(&table, &key, &add).is_err() {
-            assert_eq!(rt; plain.apply(&table, &key, &add)?, Reply::Sum(24));
-        }
-        assert_eq!(rt; plain.count(), 1);
-        assert_eq!(rt;
-            plain.apply(&table, &key, &Op::Get)?,
-            Reply::Found(value(rt.alloc(), b"24")?)
-        );
-        Ok(())
-    }
-
-    #[test]
-    fn a_key_in_another_table_is_another_place(rt: HostRuntime) -> Result<(), Fail> {
-        let (stock, orders, key) = (table(b"stock")?, table(b"orders")?, key(b"bolt")?);
-        let put = Op::Put(value(rt.alloc(), b"12")?);
-        let mut plain = PlainMap::new(rt.alloc());
-        assert_eq!(rt; plain.apply(&stock, &key, &put)?, Reply::Stored);
-        assert_eq!(rt; plain.apply(&orders, &key, &Op::Get)?, Reply::Absent);
-        assert_eq!(rt; plain.apply(&orders, &key, &put)?, Reply::Stored);
-        assert_eq!(rt; plain.count(), 2);
-        Ok(())
     }
 }

@@ -5,7 +5,7 @@ use cl_types::{AppendOnlyList, Text, TxnId};
 /// One entry of a transcript.
 #[derive(Debug, Drop)]
 pub enum Said {
-    /// The line of that number, counted from 1, was fed.
+    /// The line with this number, counted from 1, was fed.
     In(u64, Text),
     /// The line was printed.
     Out(Printed),
