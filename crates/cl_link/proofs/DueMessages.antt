@@ -35,24 +35,24 @@ unfolding first_due
 first_due-push [] number body = rw add-zero
 first_due-push {B} (x ∷ ms) number body =
     let rest : first_due (number + 1) (ms ++ record { body = body; due = true } ∷ []) ≡ option_or (first_due (number + 1) ms) (Some (number + 1 + length ms, body)) = first_due-push ms (number + 1) body in
-    let place : number + suc (length ms) ≡ number + 1 + length ms = omega arith in
+    let index : number + suc (length ms) ≡ number + 1 + length ms = omega arith in
     elim (x.due) as (λ due. cond due (Some (number, x.body)) (first_due (number + 1) (ms ++ record { body = body; due = true } ∷ [])) ≡ option_or (cond due (Some (number, x.body)) (first_due (number + 1) ms)) (Some (number + suc (length ms), body)))
-    [ true ↦ refl | false ↦ rw place rest ]
+    [ true ↦ refl | false ↦ rw index rest ]
 
 -- a message that is given is due once those before it are sent
 pub due_of-after_send : {B : Type 0} (s : LinkState B) (body : B) → due_of (after_send s body) ≡ option_or (due_of s) (Some (last_number s + 1, body))
 unfolding due_of after_send
 due_of-after_send s body =
-    let place : s.released + length s.kept + 1 ≡ s.released + 1 + length s.kept = omega arith in
-    rw place (first_due-push s.kept (s.released + 1) body)
+    let index : s.released + length s.kept + 1 ≡ s.released + 1 + length s.kept = omega arith in
+    rw index (first_due-push s.kept (s.released + 1) body)
 
 -- the least due one is sent: the next one stands behind it
 sent_here : {B : Type 0} (x : Kept B) (ms : List (Kept B)) (number : ℕ) (m next : ℕ × B) → Some (number, x.body) ≡ Some m → first_due number (sent_at (x ∷ ms) (m.0 - number)) ≡ Some next → m.0 < next.0
 unfolding first_due
 sent_here {B} x ms number m next e later =
     let same : (number, x.body) ≡ m = cc in
-    let zero_place : m.0 - number ≡ 0 = omega (arith, ap (λ (k : ℕ × B). k.0) same) in
-    let rest : first_due (number + 1) ms ≡ Some next = rw zero_place at later in
+    let zero_index : m.0 - number ≡ 0 = omega (arith, ap (λ (k : ℕ × B). k.0) same) in
+    let rest : first_due (number + 1) ms ≡ Some next = rw zero_index at later in
     omega (arith, (first_due_kept ms (number + 1) next rest).0, ap (λ (k : ℕ × B). k.0) same)
 
 first_due-sent_at : {B : Type 0} (ms : List (Kept B)) (number : ℕ) (m next : ℕ × B) → first_due number ms ≡ Some m → first_due number (sent_at ms (m.0 - number)) ≡ Some next → m.0 < next.0
@@ -63,8 +63,8 @@ first_due-sent_at {B} (x ∷ ms) number m next due more =
       | true ↦ λ e later. sent_here (record x { due = true }) ms number m next e later
       | false ↦ λ e later.
           (let behind : number + 1 ≤ m.0 = (first_due_kept ms (number + 1) m e).0 in
-          let place : m.0 - number ≡ suc (m.0 - (number + 1)) = omega arith in
-          let rest : first_due (number + 1) (sent_at ms (m.0 - (number + 1))) ≡ Some next = rw place at later in
+          let index : m.0 - number ≡ suc (m.0 - (number + 1)) = omega arith in
+          let rest : first_due (number + 1) (sent_at ms (m.0 - (number + 1))) ≡ Some next = rw index at later in
           first_due-sent_at ms (number + 1) m next e rest)
     ] due more
 
@@ -74,6 +74,6 @@ unfolding due_of after_sent
 due_of-after_sent s m next due more =
     let above : s.released < m.0 = omega (arith, (first_due_kept s.kept (s.released + 1) m due).0) in
     let yes : nat_lt s.released m.0 ≡ true = search rules in
-    let place : m.0 - s.released - 1 ≡ m.0 - (s.released + 1) = omega arith in
-    let rest : first_due (s.released + 1) (sent_at s.kept (m.0 - (s.released + 1))) ≡ Some next = rw (yes, place) at more in
+    let index : m.0 - s.released - 1 ≡ m.0 - (s.released + 1) = omega arith in
+    let rest : first_due (s.released + 1) (sent_at s.kept (m.0 - (s.released + 1))) ≡ Some next = rw (yes, index) at more in
     first_due-sent_at s.kept (s.released + 1) m next due rest

@@ -8,7 +8,7 @@ use Rattle.cl_link.specs.declared.link.Taken.{Taken}
 use Rattle.cl_link.specs.declared.link.Taken.TheVariants.{Now, Old, Gap}
 use Rattle.cl_link.specs.LinkState.{LinkState, no_message, last_number, unacknowledged, due_of, covered, taken_of, count_after, after_send, after_sent, after_again, after_heard, after_accept, after_drop_all}
 use Rattle.cl_link.specs.LinkPair.{LinkPacket, IsGiven, LinkOrder, after_packet}
-use Rattle.cl_link.proofs.Places.{slice_get_kept, slice_get-drop, All-among}
+use Rattle.cl_link.proofs.Indices.{slice_get_kept, slice_get-drop, All-among}
 use Rattle.cl_link.proofs.LinkStates.{last_number-after_send, last_number-after_sent, last_number-after_again, last_number-after_heard, last_number-after_accept, last_number-after_drop_all, released-after_send, released-after_sent, released-after_again, released-after_heard, released-after_accept, released-after_drop_all, unacknowledged-after_send, unacknowledged-after_sent, unacknowledged-after_again, unacknowledged-after_heard, unacknowledged-after_accept, unacknowledged-after_drop_all, accepted-after_heard, accepted-after_accept, number_of_taken, due_of-kept}
 
 -- what was given stays given
@@ -50,9 +50,9 @@ module _ {B : Type 0} {given : List B} {sender receiver : LinkState B} {there : 
       IsGiven_by given (due_of sender)
       (λ m found.
       let kept = due_of-kept sender m found in
-      let place : sender.released + (m.0 - sender.released - 1) ≡ m.0 - 1 = omega (arith, kept.0) in (
+      let index : sender.released + (m.0 - sender.released - 1) ≡ m.0 - 1 = omega (arith, kept.0) in (
         omega (arith, kept.0),
-        ap (slice_get given) (sym place)
+        ap (slice_get given) (sym index)
             ∙ (sym (slice_get-drop sender.released given (m.0 - sender.released - 1))
             ∙ (ap (λ (bs : List B). slice_get bs (m.0 - sender.released - 1)) (sym order.kept) ∙ kept.1)),
       ))

@@ -8,7 +8,7 @@ use Rattle.std.proofs.lemmas.List.Elements.{All-push, All-nil, All-weaker, All-c
 use Rattle.cl_link.specs.declared.link.Taken.TheVariants.{Now}
 use Rattle.cl_link.specs.LinkState.{LinkState, no_message, last_number, unacknowledged, due_of, taken_of, after_send, after_sent, after_again, after_heard, after_accept, after_drop_all}
 use Rattle.cl_link.specs.LinkPair.{LinkPacket, IsGiven, LinkAcks, LinkPair, after_packet}
-use Rattle.cl_link.proofs.Places.{All-among, Contains-remove, Contains-again}
+use Rattle.cl_link.proofs.Indices.{All-among, Contains-remove, Contains-again}
 use Rattle.cl_link.proofs.LinkStates.{released-after_send, released-after_sent, released-after_again, released-after_heard, released-after_accept, accepted-after_send, accepted-after_sent, accepted-after_again, accepted-after_heard, accepted-after_accept, accepted-after_drop_all}
 use Rattle.cl_link.proofs.LinkOrders.{order-start, order-due, order_send, order_sent, order_again, order_heard, order_accept_back, order_same_receiver, order_accept, order_emitted, order_among, order_packet, order_packet_back, took_next, count_after-le, accepted-after_packet}
 
@@ -179,12 +179,12 @@ module _ {B : Type 0} {given : List B} {sender receiver : LinkState B} {there ba
   pub back_among : (others : List (LinkPacket B)) → ((p : LinkPacket B) → Contains others p → Contains back p) → LinkPair given sender receiver there others
   back_among others among = record { order = pair.order; acks = acks_among pair.acks others among }
 
-  -- the packet at a place is lost
-  pub there_lost : (place : ℕ) → LinkPair given sender receiver (remove there place) back
-  there_lost place = there_among _ (Contains-remove there place)
+  -- the packet at an index is lost
+  pub there_lost : (index : ℕ) → LinkPair given sender receiver (remove there index) back
+  there_lost index = there_among _ (Contains-remove there index)
 
-  pub back_lost : (place : ℕ) → LinkPair given sender receiver there (remove back place)
-  back_lost place = back_among _ (Contains-remove back place)
+  pub back_lost : (index : ℕ) → LinkPair given sender receiver there (remove back index)
+  back_lost index = back_among _ (Contains-remove back index)
 
   -- a packet is repeated
   pub there_repeated : (p : LinkPacket B) → Contains there p → LinkPair given sender receiver (there ++ p ∷ []) back

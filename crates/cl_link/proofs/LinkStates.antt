@@ -63,10 +63,10 @@ pub unacknowledged-after_send : {B : Type 0} (s : LinkState B) (body : B) → un
 unfolding after_send
 unacknowledged-after_send s body = map_push (λ m. m.body) s.kept _
 
-bodies-sent_at : {B : Type 0} (ms : List (Kept B)) (place : ℕ) → map (λ (m : Kept B). m.body) (sent_at ms place) ≡ map (λ (m : Kept B). m.body) ms
-bodies-sent_at [] place = refl
+bodies-sent_at : {B : Type 0} (ms : List (Kept B)) (index : ℕ) → map (λ (m : Kept B). m.body) (sent_at ms index) ≡ map (λ (m : Kept B). m.body) ms
+bodies-sent_at [] index = refl
 bodies-sent_at (m ∷ ms) zero = refl
-bodies-sent_at (m ∷ ms) (suc place) = ap (λ rest. m.body ∷ rest) (bodies-sent_at ms place)
+bodies-sent_at (m ∷ ms) (suc index) = ap (λ rest. m.body ∷ rest) (bodies-sent_at ms index)
 
 bodies-all_due : {B : Type 0} (ms : List (Kept B)) → map (λ (m : Kept B). m.body) (all_due ms) ≡ map (λ (m : Kept B). m.body) ms
 bodies-all_due [] = refl

@@ -1,15 +1,16 @@
 -- Each list of events keeps each link in order.
-use Rattle.std.proofs.Common.{◌≡◌, ℕ, ◌^◌, ◌≤◌, Bool, true, false, cond, eqb, List, [], ◌∷◌, ◌++◌, length, take, drop, Option, Some, None, refl, ap, sym, ◌∙◌, arith}
+use Rattle.std.proofs.Common.{◌≡◌, ℕ, ◌≤◌, Bool, true, false, cond, eqb, List, [], ◌∷◌, ◌++◌, length, take, drop, Option, Some, None, refl, ap, sym, ◌∙◌, arith}
 use Rattle.std.specs.List.{slice_get, All, fold}
 use Rattle.std.proofs.lemmas.List.{take-append-drop, take-append-le, length-take-le}
 use Rattle.std.proofs.lemmas.List.Elements.{All-weaker}
 use Rattle.std.proofs.lemmas.List.Sums.{fold-append}
+use Rattle.cl_link.specs.declared.link.TheConstants.{NUMBER_MAX}
 use Rattle.cl_link.specs.declared.link.Taken.{Taken}
 use Rattle.cl_link.specs.declared.link.Taken.TheVariants.{Now, Old, Gap}
 use Rattle.cl_link.specs.LinkState.{LinkState, last_number, taken_of, count_after, after_send}
 use Rattle.cl_link.specs.LinkPair.{LinkPacket, IsGiven, LinkOrder, LinkAcks, LinkPair, after_packet}
 use Rattle.cl_link.specs.Network.{LinkEnd, Network, LinkAct, Give, Mark, Tick, Emit, Comes, Lose, Drop, packet_of, took_after, took_with, after_coming, after_act, LinkEvent, after_event, quiet_network, after_events, InOrderAndOnce}
-use Rattle.cl_link.proofs.Places.{All-slice_get, All-remove}
+use Rattle.cl_link.proofs.Indices.{All-slice_get, All-remove}
 use Rattle.cl_link.proofs.LinkStates.{accepted-after_send, accepted-after_sent, accepted-after_again, accepted-after_heard, accepted-after_accept, accepted-after_drop_all, released-after_send, released-after_sent, released-after_again}
 use Rattle.cl_link.proofs.LinkOrders.{order-start, order-due, order_send, order_sent, order_again, order_drop_all, order_same_receiver, order_packet, order_packet_back, order_emitted, took_next, accepted-after_packet}
 use Rattle.cl_link.proofs.LinkPairs.{pair-start, acks_same_sender, acks_packet_back, acks_more, acks_emitted}
@@ -28,13 +29,13 @@ accepted-after_coming end (Some p) = accepted-after_packet end.link p.message p.
 pub accepted-after_act : {B : Type 0} (act : LinkAct B) (end peer : LinkEnd B) → end.link.accepted ≤ (after_act act end peer).link.accepted
 unfolding after_act
 accepted-after_act (Give body) end peer =
-    elim (eqb (last_number end.link) (2 ^ 62)) as (λ spent. end.link.accepted ≤ (cond spent end (record end { link = after_send end.link body; given = end.given ++ body ∷ [] })).link.accepted)
+    elim (eqb (last_number end.link) NUMBER_MAX) as (λ spent. end.link.accepted ≤ (cond spent end (record end { link = after_send end.link body; given = end.given ++ body ∷ [] })).link.accepted)
     [ true ↦ omega arith | false ↦ omega (arith, accepted-after_send end.link body) ]
 accepted-after_act (Mark number) end peer = omega (arith, accepted-after_sent end.link number)
 accepted-after_act Tick end peer = omega (arith, accepted-after_again end.link)
 accepted-after_act Emit end peer = omega arith
-accepted-after_act (Comes place) end peer = accepted-after_coming end (slice_get peer.out place)
-accepted-after_act (Lose place) end peer = omega arith
+accepted-after_act (Comes index) end peer = accepted-after_coming end (slice_get peer.out index)
+accepted-after_act (Lose index) end peer = omega arith
 accepted-after_act Drop end peer = omega (arith, accepted-after_drop_all end.link)
 
 -- what was accepted is still the beginning of what was given once a message has come
@@ -74,7 +75,7 @@ module _ {B : Type 0} {sender receiver : LinkEnd B} (ends : EndsHold sender rece
   receiver_acts : (act : LinkAct B) → EndsHold sender (after_act act receiver sender)
   unfolding after_act
   receiver_acts (Give body) =
-      elim (eqb (last_number receiver.link) (2 ^ 62)) as (λ spent. EndsHold sender (cond spent receiver (record receiver { link = after_send receiver.link body; given = receiver.given ++ body ∷ [] })))
+      elim (eqb (last_number receiver.link) NUMBER_MAX) as (λ spent. EndsHold sender (cond spent receiver (record receiver { link = after_send receiver.link body; given = receiver.given ++ body ∷ [] })))
       [ true ↦ ends | false ↦ receiver_same _ _ _ (accepted-after_send receiver.link body) ]
   receiver_acts (Mark number) = receiver_same _ _ _ (accepted-after_sent receiver.link number)
   receiver_acts Tick = receiver_same _ _ _ (accepted-after_again receiver.link)
@@ -83,14 +84,14 @@ module _ {B : Type 0} {sender receiver : LinkEnd B} (ends : EndsHold sender rece
     acks = λ alive. acks_emitted (ends.acks alive) (packet_of receiver.link) (omega arith);
     took = ends.took;
   }
-  receiver_acts (Comes place) =
-      receiver_comes (slice_get sender.out place)
-      (λ p at. All-slice_get (λ q. IsGiven sender.given q.message) sender.out place p ends.order.carried at)
-  receiver_acts (Lose place) = record {
+  receiver_acts (Comes index) =
+      receiver_comes (slice_get sender.out index)
+      (λ p at. All-slice_get (λ q. IsGiven sender.given q.message) sender.out index p ends.order.carried at)
+  receiver_acts (Lose index) = record {
     order = ends.order;
     acks = λ alive. record {
       released = (ends.acks alive).released;
-      carried = All-remove (λ q. q.ack ≤ receiver.link.accepted) receiver.out place (ends.acks alive).carried;
+      carried = All-remove (λ q. q.ack ≤ receiver.link.accepted) receiver.out index (ends.acks alive).carried;
     };
     took = ends.took;
   }
@@ -111,7 +112,7 @@ module _ {B : Type 0} {sender receiver : LinkEnd B} (ends : EndsHold sender rece
   sender_acts : (act : LinkAct B) (peer : LinkEnd B) → (sender.dropped ≡ false → All (λ q. q.ack ≤ receiver.link.accepted) peer.out) → EndsHold (after_act act sender peer) receiver
   unfolding after_act
   sender_acts (Give body) peer acked =
-      elim (eqb (last_number sender.link) (2 ^ 62)) as (λ spent. EndsHold (cond spent sender (record sender { link = after_send sender.link body; given = sender.given ++ body ∷ [] })) receiver) [
+      elim (eqb (last_number sender.link) NUMBER_MAX) as (λ spent. EndsHold (cond spent sender (record sender { link = after_send sender.link body; given = sender.given ++ body ∷ [] })) receiver) [
         | true ↦ ends
         | false ↦ record {
           order = order_send ends.order body;
@@ -128,15 +129,15 @@ module _ {B : Type 0} {sender receiver : LinkEnd B} (ends : EndsHold sender rece
     acks = ends.acks;
     took = ends.took;
   }
-  sender_acts (Comes place) peer acked =
-      sender_comes (slice_get peer.out place)
-      (λ p at alive. All-slice_get (λ q. q.ack ≤ receiver.link.accepted) peer.out place p (acked alive) at)
-  sender_acts (Lose place) peer acked = record {
+  sender_acts (Comes index) peer acked =
+      sender_comes (slice_get peer.out index)
+      (λ p at alive. All-slice_get (λ q. q.ack ≤ receiver.link.accepted) peer.out index p (acked alive) at)
+  sender_acts (Lose index) peer acked = record {
     order = record {
       numbered = ends.order.numbered;
       kept = ends.order.kept;
       accepted = ends.order.accepted;
-      carried = All-remove (λ q. IsGiven sender.given q.message) sender.out place ends.order.carried;
+      carried = All-remove (λ q. IsGiven sender.given q.message) sender.out index ends.order.carried;
     };
     acks = ends.acks;
     took = ends.took;

@@ -2,20 +2,20 @@
 use Rattle.std.specs.Prelude.{ℕ, zero, suc, Bool, true, false, if◌then◌else◌, List, [], ◌∷◌, map}
 use Rattle.cl_link.specs.declared.kept.Kept.{Kept}
 
--- the place of the first due message, counted from 0, or their number where none is due
-abbrev pub due_place : {B : Type 0} → List (Kept B) → ℕ
-due_place [] = 0
-due_place (m ∷ ms) = if m.due then 0 else suc (due_place ms)
+-- the index of the first due message, counted from 0, or their number where none is due
+abbrev pub due_index : {B : Type 0} → List (Kept B) → ℕ
+due_index [] = 0
+due_index (m ∷ ms) = if m.due then 0 else suc (due_index ms)
 
 -- the message is due, or no longer due
 abbrev pub with_due : {B : Type 0} → Bool → Kept B → Kept B
 with_due due m = record m { due = due }
 
--- the message at a place, if there is one, is no longer due
+-- the message at an index, if there is one, is no longer due
 abbrev pub sent_at : {B : Type 0} → List (Kept B) → ℕ → List (Kept B)
-sent_at [] place = []
+sent_at [] index = []
 sent_at (m ∷ ms) zero = with_due false m ∷ ms
-sent_at (m ∷ ms) (suc place) = m ∷ sent_at ms place
+sent_at (m ∷ ms) (suc index) = m ∷ sent_at ms index
 
 -- each message is due
 abbrev pub all_due : {B : Type 0} → List (Kept B) → List (Kept B)

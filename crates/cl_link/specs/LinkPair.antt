@@ -17,7 +17,7 @@ abbrev pub IsGiven : {B : Type 0} → List B → Option (ℕ × B) → Type 0
 IsGiven given None = ⊤
 IsGiven given (Some m) = (1 ≤ m.0) × (slice_get given (m.0 - 1) ≡ Some m.1)
 
--- the receiver accepts what was given, in order: messages bear their places in what was given
+-- the receiver accepts what was given, in order: messages bear their indices in what was given
 pub record LinkOrder {B : Type 0} (given : List B) (sender receiver : LinkState B) (there : List (LinkPacket B)) : Type 0 where
   -- the last number is how many messages were given
   pub numbered : last_number sender ≡ length given

@@ -1,5 +1,6 @@
 -- Actors that give each other messages over links, while their packets are lost, repeated and reordered.
-use Rattle.std.specs.Prelude.{◌≡◌, ℕ, ◌^◌, ◌≤◌, Bool, true, false, ◌&&◌, ◌==◌, if◌then◌else◌, List, [], ◌∷◌, ◌++◌, length, drop, remove, fold, Option, Some, None, slice_get}
+use Rattle.std.specs.Prelude.{◌≡◌, ℕ, ◌≤◌, Bool, true, false, ◌&&◌, ◌==◌, if◌then◌else◌, List, [], ◌∷◌, ◌++◌, length, drop, remove, fold, Option, Some, None, slice_get}
+use Rattle.cl_link.specs.declared.link.TheConstants.{NUMBER_MAX}
 use Rattle.cl_link.specs.declared.link.Taken.{Taken}
 use Rattle.cl_link.specs.declared.link.Taken.TheVariants.{Now, Old, Gap}
 use Rattle.cl_link.specs.LinkState.{LinkState, no_message, last_number, unacknowledged, due_of, taken_of, after_send, after_sent, after_again, after_drop_all}
@@ -30,9 +31,9 @@ pub data LinkAct (B : Type 0) : Type 0 where
   Tick : LinkAct B
   -- a packet goes on its way with the least due message, or with none
   Emit : LinkAct B
-  -- the packet that is at this place of those on their way from the peer comes. It may come again, and before others
+  -- the packet that is at this index of those on their way from the peer comes. It may come again, and before others
   Comes : ℕ → LinkAct B
-  -- the packet that is at this place of those on their way to the peer is lost
+  -- the packet that is at this index of those on their way to the peer is lost
   Lose : ℕ → LinkAct B
   -- what is kept is dropped
   Drop : LinkAct B
@@ -60,12 +61,12 @@ after_coming end (Some p) = record end { link = after_packet end.link p.message 
 -- an end after an act there, with the end of the peer
 unfoldable pub after_act : {B : Type 0} → LinkAct B → LinkEnd B → LinkEnd B → LinkEnd B
 after_act (Give body) end peer =
-    if last_number end.link == 2 ^ 62 then end else record end { link = after_send end.link body; given = end.given ++ body ∷ [] }
+    if last_number end.link == NUMBER_MAX then end else record end { link = after_send end.link body; given = end.given ++ body ∷ [] }
 after_act (Mark number) end peer = record end { link = after_sent end.link number }
 after_act Tick end peer = record end { link = after_again end.link }
 after_act Emit end peer = record end { out = end.out ++ packet_of end.link ∷ [] }
-after_act (Comes place) end peer = after_coming end (slice_get peer.out place)
-after_act (Lose place) end peer = record end { out = remove end.out place }
+after_act (Comes index) end peer = after_coming end (slice_get peer.out index)
+after_act (Lose index) end peer = record end { out = remove end.out index }
 after_act Drop end peer = record end { link = after_drop_all end.link; dropped = true }
 
 -- an act at the end that an actor has of its link to a peer

@@ -1,6 +1,6 @@
 //! The messages that a link keeps, by number, and which of them are due.
 ghost use Rattle.std.specs.Prelude.{◌≡◌, ◌<◌, ◌≤◌, drop, length};
-ghost use Rattle.cl_link.specs.Kept.{due_place, sent_at, all_due};
+ghost use Rattle.cl_link.specs.Kept.{due_index, sent_at, all_due};
 
 use std::collections::VecDeque;
 
@@ -8,32 +8,32 @@ use std::collections::VecDeque;
 #[derive(Debug, Drop)]
 pub(crate) struct Kept<B> {
     pub(crate) body: B,
-    /// Whether it was never sent, or is to be sent again.
+    /// Whether it waits to be sent, for the first time or again.
     pub(crate) due: bool,
 }
 
-// The place of the first due message, or the number of messages where none is due. None before `from` is due.
-pub(crate) fn place_of_due<B>(kept: &VecDeque<Kept<B>>, from: usize) -> usize
-    requires { from ≤ due_place kept.now.items }
-    ensures { result ≡ due_place kept.now.items }
+// The index of the first due message, or how many messages there are where none is due. None before `from` is due.
+pub(crate) fn index_of_due<B>(kept: &VecDeque<Kept<B>>, from: usize) -> usize
+    requires { from ≤ due_index kept.now.items }
+    ensures { result ≡ due_index kept.now.items }
 {
-    for place in from..kept.len() {
-        if kept[place].due {
-            return place;
+    for index in from..kept.len() {
+        if kept[index].due {
+            return index;
         }
     }
     kept.len()
 }
 
-// The message at a place is no longer due.
-pub(crate) fn mark_sent<B>(kept: &mut VecDeque<Kept<B>>, place: usize)
-    requires { place < length kept.old.items }
-    ensures { kept.new.items ≡ sent_at kept.old.items place }
+// Marks the message at an index as sent: it is no longer due.
+pub(crate) fn mark_sent<B>(kept: &mut VecDeque<Kept<B>>, index: usize)
+    requires { index < length kept.old.items }
+    ensures { kept.new.items ≡ sent_at kept.old.items index }
 {
-    kept[place].due = false;
+    kept[index].due = false;
 }
 
-// Each message is due.
+// Makes each message due.
 pub(crate) fn mark_all_due<B>(kept: &mut VecDeque<Kept<B>>)
     ensures { kept.new.items ≡ all_due kept.old.items }
 {

@@ -4,8 +4,6 @@
 mod kept;
 mod law;
 mod link;
-#[cfg(test)]
-mod tests;
 
 pub use law::in_order_and_once;
-pub use link::{LAST_NUMBER, Link, Taken};
+pub use link::{Link, NUMBER_MAX, Taken};

@@ -1,54 +1,55 @@
 //! One end of a link.
-ghost use Rattle.std.specs.Prelude.{◌≡◌, ◌+◌, ◌^◌, ◌≤◌, ◌↔◌, length, Err, IfOk, OnOk, OnErr};
+ghost use Rattle.std.specs.Prelude.{◌≡◌, ◌+◌, ◌≤◌, ◌↔◌, length, Err, IfOk, OnOk, OnErr};
 ghost use Rattle.cl_link.specs.LinkState.{no_message, last_number, due_of, due_read, taken_of, after_send, after_sent, after_again, after_accept, after_heard, after_drop_all};
 
-use crate::kept::{Kept, drop_front, mark_all_due, mark_sent, place_of_due};
+use crate::kept::{Kept, drop_front, index_of_due, mark_all_due, mark_sent};
 use cl_types::Refused;
 use std::alloc::Global;
 use std::collections::VecDeque;
 use std::marker::Model;
 
-/// The highest number that a message may have.
-pub const LAST_NUMBER: u64 = 1 << 62;
+/// The highest number of a message.
+pub const NUMBER_MAX: u64 = 1 << 62;
 
-/// What became of a numbered message that came.
+/// What became of a numbered message that arrived.
 #[derive(Clone, Copy, Debug, PartialEq, Eq)]
 pub enum Taken {
     /// It is the next one, and is accepted now.
     Now,
     /// It was accepted before.
     Old,
-    /// One before it has not come yet.
+    /// One before it has not arrived yet.
     Gap,
 }
 
 /// One end of a link: the messages to its peer, and how many were accepted from it.
 ///
-/// Messages are numbered from 1 by the order in which they are given. Each is kept until it is acknowledged or dropped.
+/// Messages are numbered from 1, in the order in which they are given. Each is kept until it is acknowledged or dropped.
 #[derive(Debug, Drop)]
 pub struct Link<B> {
     kept: VecDeque<Kept<B>>,
     /// How many messages, from the first on, are no longer kept.
     released: u64,
-    /// The place in `kept` of the least due message, or its length where none is due.
+    /// The index in `kept` of the least due message, or its length where none is due.
     due: usize,
     accepted: u64,
 }
 
 impl<B> Model for Link<B> {
-    ghost use Rattle.std.specs.Prelude.{◌≡◌, ◌+◌, ◌^◌, ◌≤◌, length};
+    ghost use Rattle.std.specs.Prelude.{◌≡◌, ◌+◌, ◌≤◌, length};
+    ghost use Rattle.cl_link.specs.declared.link.TheConstants.{NUMBER_MAX};
     ghost use Rattle.cl_link.specs.LinkState.{LinkState};
-    ghost use Rattle.cl_link.specs.Kept.{due_place};
+    ghost use Rattle.cl_link.specs.Kept.{due_index};
 
     ghost Value = { LinkState B };
 
     ghost view = { λ link. record { released = link.released; kept = link.kept.items; accepted = link.accepted } };
 
-    ghost invariant = { λ link. (link.released + length link.kept.items ≤ 2 ^ 62) × (link.due ≡ due_place link.kept.items) };
+    ghost invariant = { λ link. (link.released + length link.kept.items ≤ NUMBER_MAX) × (link.due ≡ due_index link.kept.items) };
 }
 
 impl<B> Link<B> {
-    /// A link on which nothing was given and nothing accepted. It takes no memory.
+    /// Makes a link with no message given and none accepted. It allocates nothing.
     pub fn new(alloc: Global) -> Self
         ensures { result ≡ no_message }
     {
@@ -60,9 +61,10 @@ impl<B> Link<B> {
         }
     }
 
-    /// Gives a message to the link, which keeps it until it is acknowledged or dropped. It is due. Answers its number.
+    /// Gives a message to the link, and returns its number. The message is kept, and is due.
     ///
-    /// After a refusal the link is as before, and the message is dropped.
+    /// A refusal leaves the link unchanged and drops the message. It is refused as `Spent` exactly where the numbers have
+    /// reached `NUMBER_MAX`, and else only where an allocation fails.
     #[tactic(auto, unfolding(crate::specs::LinkState::after_send))]
     pub fn send(&mut self, body: B) -> Result<u64, Refused>
     where
@@ -70,11 +72,11 @@ impl<B> Link<B> {
         ensures number { IfOk result (λ number. number ≡ last_number self.new) }
         ensures ok { OnOk result (self.new ≡ after_send self.old body) }
         ensures err { OnErr result (self.new ≡ self.old) }
-        ensures spent { (result ≡ Err Refused.Spent) ↔ (last_number self.old ≡ 2 ^ 62) }
-        ensures within { last_number self.new ≤ 2 ^ 62 }
+        ensures spent { (result ≡ Err Refused.Spent) ↔ (last_number self.old ≡ NUMBER_MAX) }
+        ensures within { last_number self.new ≤ NUMBER_MAX }
     {
         let last = self.last_number();
-        if last == LAST_NUMBER {
+        if last == NUMBER_MAX {
             return Err(Refused::Spent);
         }
         match self.kept.push_back(Kept { body, due: true }) {
@@ -83,7 +85,7 @@ impl<B> Link<B> {
         }
     }
 
-    /// The due message with the least number, and that number. It takes constant time.
+    /// Returns the due message with the least number, and that number. It takes constant time; no contract says so.
     pub fn due(&self) -> Option<(u64, &B)>
         ensures { due_read result ≡ due_of self.now }
     {
@@ -91,9 +93,9 @@ impl<B> Link<B> {
         Some((self.released + 1 + self.due as u64, &message.body))
     }
 
-    /// The message of this number was sent: it is no longer due. Nothing changes where it is not kept.
+    /// Marks the message with this number as sent: it is no longer due. Nothing changes where it is not kept.
     ///
-    /// In the order in which messages are due it takes constant time.
+    /// Where messages are marked in the order in which they are due, each call takes constant time; no contract says so.
     #[tactic(auto, unfolding(crate::specs::LinkState::after_sent))]
     pub fn sent(&mut self, seq: u64)
         ensures { self.new ≡ after_sent self.old seq }
@@ -101,12 +103,12 @@ impl<B> Link<B> {
         if seq <= self.released || self.last_number() < seq {
             return;
         }
-        let place = (seq - self.released - 1) as usize;
-        mark_sent(&mut self.kept, place);
-        self.due = place_of_due(&self.kept, self.due);
+        let index = (seq - self.released - 1) as usize;
+        mark_sent(&mut self.kept, index);
+        self.due = index_of_due(&self.kept, self.due);
     }
 
-    /// Each message that is kept is due again. It takes time for each of them.
+    /// Makes each kept message due again. It takes linear time; no contract says so.
     #[tactic(auto, unfolding(crate::specs::LinkState::after_again))]
     pub fn again(&mut self)
         ensures { self.new ≡ after_again self.old }
@@ -115,7 +117,7 @@ impl<B> Link<B> {
         self.due = 0;
     }
 
-    /// A message of the peer comes, of this number and with this acknowledgement. Exactly the next one is accepted.
+    /// Takes a message of the peer, with its number and its acknowledgement. Exactly the next one is accepted.
     ///
     /// What is acknowledged is dropped, whatever becomes of the message.
     #[tactic(auto, unfolding(crate::specs::LinkState::after_accept, crate::specs::LinkState::after_heard, crate::specs::LinkState::taken_of))]
@@ -137,9 +139,10 @@ impl<B> Link<B> {
         Taken::Now
     }
 
-    /// A packet comes that carries an acknowledgement alone: what it acknowledges is dropped.
+    /// Takes an acknowledgement without a message: what it acknowledges is dropped.
     ///
-    /// One above the last number covers each message that is kept. It takes constant time, and so much more for each message dropped.
+    /// An acknowledgement above the last number covers each kept message. It takes time linear in the messages that are
+    /// dropped; no contract says so.
     #[tactic(auto, unfolding(crate::specs::LinkState::after_heard))]
     pub fn heard(&mut self, ack: u64)
     where
@@ -151,32 +154,32 @@ impl<B> Link<B> {
             .min(self.kept.len() as u64);
         drop_front(&mut self.kept, covered as usize);
         self.released += covered;
-        self.due = place_of_due(&self.kept, self.due.saturating_sub(covered as usize));
+        self.due = index_of_due(&self.kept, self.due.saturating_sub(covered as usize));
     }
 
-    /// The number of the last message accepted from the peer, or 0 where none was accepted.
+    /// Returns the number of the last message accepted from the peer, or 0.
     pub fn accepted(&self) -> u64
         ensures { result ≡ self.now.accepted }
     {
         self.accepted
     }
 
-    /// The number of the last message given, or 0 where none was given.
+    /// Returns the number of the last message given, or 0.
     pub fn last_number(&self) -> u64
         ensures number { result ≡ last_number self.now }
-        ensures within { result ≤ 2 ^ 62 }
+        ensures within { result ≤ NUMBER_MAX }
     {
         self.released + self.kept.len() as u64
     }
 
-    /// How many messages are kept: given, and neither acknowledged nor dropped.
+    /// Returns how many messages are kept: given, and neither acknowledged nor dropped.
     pub fn unacked(&self) -> usize
         ensures { result ≡ length self.now.kept }
     {
         self.kept.len()
     }
 
-    /// Drops each message that is kept, since the peer stopped. The numbers go on.
+    /// Drops each kept message, since the peer stopped. The numbers go on.
     #[tactic(auto, unfolding(crate::specs::LinkState::after_drop_all))]
     pub fn drop_all(&mut self)
     where

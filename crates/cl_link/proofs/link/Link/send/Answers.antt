@@ -6,5 +6,5 @@ use Rattle.cl_link.proofs.link.Link.send.Goals as goal
 pub invariant_of-self : goal.invariant_of-self
 invariant_of-self g c =
     pushed_within _ _ _ _ _ _ _ c.push_back.ensures.items
-    (λ full. c.if-last-eq-LAST_NUMBER.false (omega (arith, ap last_number c.self.view_is))) c.self.invariant.0
+    (λ full. c.if-last-eq-NUMBER_MAX.false (omega (arith, ap last_number c.self.view_is))) c.self.invariant.0
     c.self.invariant.1

@@ -1,11 +1,11 @@
--- What stands at a place of a list, and what holds of each of its elements.
+-- What stands at an index of a list, and what holds of each of its elements.
 use Rattle.std.proofs.Common.{inl, inr, ◌≡◌, ℕ, zero, suc, ◌+◌, ◌<◌, List, [], ◌∷◌, ◌++◌, length, drop, Some, refl, ap, sym, ◌∙◌, subst, arith, zero-add}
 use Rattle.std.specs.List.{slice_get, All, Contains, remove}
 use Rattle.std.proofs.lemmas.List.{get_or_append_left, length-append}
 use Rattle.std.proofs.lemmas.List.Elements.{All-append, All-take, All-drop, All-get_or, All-contains, Contains-get_or, Contains-push_cases, All-contains_itself}
 use Rattle.std.proofs.lemmas.Option.{slice_get_within, slice_get-get_or, get_or_from_slice_get}
 
--- what stands at a place still stands there once more was added at the end
+-- what stands at an index still stands there once more was added at the end
 pub slice_get_kept : {X : Type 0} (xs ys : List X) (i : ℕ) (x : X) → slice_get xs i ≡ Some x → slice_get (xs ++ ys) i ≡ Some x
 slice_get_kept xs ys i x at =
     let within : i < length xs = slice_get_within xs i x at in
