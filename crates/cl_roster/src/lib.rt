@@ -1,4 +1,4 @@
-//! The roster: which nodes have stopped, and who is primary and who is standby of each virtual node.
+//! The roster: which nodes have stopped, and which nodes are primary and standby of each virtual node.
 #![tactic(auto)]
 
 mod entry;
@@ -16,6 +16,3 @@ pub use laws::{
 pub use limits::{ENTRIES_MAX, NODES_MAX, VIRTUAL_NODES_MAX};
 pub use roles::Roles;
 pub use roster::Roster;
-
-#[cfg(test)]
-mod tests;

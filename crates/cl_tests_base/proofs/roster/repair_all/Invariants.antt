@@ -1,5 +1,5 @@
 use Rattle.std.proofs.Common.{◌≡◌}
-use Rattle.cl_roster.proofs.tests.repair_all.Given as goal
+use Rattle.cl_tests_base.proofs.roster.repair_all.Given as goal
 
 abbrev pub invariant-loop-spare : goal.invariant-loop-spare
 invariant-loop-spare l = (l.roster.nodes ≡ l.nodes) × (l.roster.spares ≡ l.spares)
