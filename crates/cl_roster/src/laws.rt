@@ -4,7 +4,7 @@ ghost use Rattle.cl_roster.specs.Roster.{IsClusterSize, IsLawfulRoster};
 
 use crate::Roster;
 
-/// Each roster is lawful, and of a size that there may be.
+/// Each roster is lawful, and its cluster has a lawful size.
 pub fn rosters_are_lawful(roster: &Roster)
     ensures size { IsClusterSize roster.now.nodes roster.now.spares }
     ensures lawful { IsLawfulRoster roster.now.nodes roster.now.spares roster.now.entries }
@@ -12,14 +12,14 @@ pub fn rosters_are_lawful(roster: &Roster)
     roster.lawful();
 }
 
-/// What one entry more makes of the roles of each virtual node.
+/// One more entry changes the roles of each virtual node by one step: a stop takes out, a repair puts in.
 pub fn one_entry_more()
     ensures step { RolesGoOnByOneStep }
     ensures stop { StopTakesOut }
     ensures repair { RepairPutsIn }
 {}
 
-/// Lawful rosters grow by lawful entries, and whoever has noted a part of one has a lawful one.
+/// Lawful rosters grow by lawful entries, their prefixes are lawful, and they are short.
 pub fn lawful_rosters()
     ensures empty { EmptyIsLawful }
     ensures push { LawfulEntryKeepsLawful }
@@ -27,14 +27,14 @@ pub fn lawful_rosters()
     ensures short { LawfulRostersAreShort }
 {}
 
-/// Each virtual node has one or two members, which live and differ, and are on two sites where the repairs are.
+/// Each virtual node has one or two members, which live and differ. They are on two sites where each repair crosses.
 pub fn members_are_sound()
     ensures sound { MembersAreSound }
     ensures two_sites { MembersAreOnTwoSites }
     ensures left { AdmittedStopLeavesMember }
 {}
 
-/// What stays: a primary and a member until it stops, a stop for ever, and what the first entries say.
+/// A primary and a member stay until they stop, a stop stays for ever, and the first entries decide their roles.
 pub fn what_stays()
     ensures primary { PrimaryStays }
     ensures member { MemberStays }
@@ -42,7 +42,7 @@ pub fn what_stays()
     ensures prefix { PrefixDecidesRoles }
 {}
 
-/// What a verdict on a stop means, and what the search for a spare finds.
+/// A verdict on a stop means what it says, and the search for a spare finds the lowest lawful one.
 pub fn verdicts_and_spares()
     ensures verdict { VerdictsMean }
     ensures spare { SparesMean }

@@ -6,6 +6,5 @@ pub const NODES_MAX: usize = 16;
 /// The most virtual nodes.
 pub const VIRTUAL_NODES_MAX: usize = 8;
 
-/// The most entries of a roster: each node stops once, and each stop takes a member from each virtual
-/// node at most once, which one repair makes good.
+/// The most entries of a roster. Each node stops at most once, and a stop leaves at most one repair to each virtual node.
 pub const ENTRIES_MAX: usize = NODES_MAX * (1 + VIRTUAL_NODES_MAX);

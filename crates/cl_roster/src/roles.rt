@@ -4,7 +4,7 @@ ghost use Rattle.cl_roster.specs.Roles.{first_roles, after_stop, after_entry, is
 
 use crate::{RosterEntry, VIRTUAL_NODES_MAX};
 
-/// Who holds a virtual node: its primary and, where there is one, its standby.
+/// The members of a virtual node: its primary and, where there is one, its standby.
 #[derive(Clone, Copy, Debug, PartialEq, Eq)]
 pub struct Roles {
     pub primary: u32,
@@ -12,7 +12,7 @@ pub struct Roles {
 }
 
 impl Roles {
-    // The roles at the start, of a cluster with so many nodes.
+    // The roles before the first entry, in a cluster with so many nodes.
     pub(crate) fn first(nodes: u32, virtual_node: u32) -> Roles
         requires some { 0 < nodes }
         requires few { virtual_node < VIRTUAL_NODES_MAX }
@@ -41,7 +41,7 @@ impl Roles {
         }
     }
 
-    // The roles of the virtual node after one entry more.
+    // The roles of the virtual node after one more entry.
     pub(crate) fn after(self, virtual_node: u32, entry: RosterEntry) -> Roles
         ensures { result ≡ after_entry virtual_node self entry }
     {

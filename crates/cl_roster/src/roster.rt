@@ -1,4 +1,4 @@
-//! The roster itself: a list of entries that only grows, and what is kept beside it.
+//! The roster itself: a list of entries that only grows, and what stands after them.
 ghost use Rattle.std.specs.Prelude.{◌≡◌, ◌==◌, ◌&&◌, not, ◌+◌, ◌<◌, ◌≤◌, ◌↔◌, [], ◌∷◌, ◌++◌, length, take, None, IsTrue, IsOk, OnOk, OnErr, IfSome};
 ghost use Rattle.cl_roster.specs.Roles.{roles_after};
 ghost use Rattle.cl_roster.specs.Roster.{IsClusterSize, IsLawfulEntry, IsLawfulRoster, entry_at, has_stopped, is_living, lowest_alone, site, spare_of, stop_verdict};
@@ -11,7 +11,7 @@ use std::marker::Model;
 
 /// Which nodes have stopped and which virtual nodes were repaired, in order.
 ///
-/// Contracts see the numbers of nodes and spares, the entries, and for how many more there is room.
+/// Contracts see how many nodes and spares there are, the entries, and the room for more.
 #[derive(Debug, Drop)]
 pub struct Roster {
     nodes: u32,
@@ -33,7 +33,7 @@ impl Model for Roster {
 }
 
 impl Roster {
-    /// The roster of a cluster in which nothing happened yet. It takes no memory.
+    /// Makes the roster of a cluster in which nothing has happened yet. It allocates nothing.
     pub fn new(alloc: Global, nodes: u32, spares: u32) -> Roster
         requires { IsClusterSize nodes spares }
         ensures nodes { result.nodes ≡ nodes }
@@ -48,7 +48,7 @@ impl Roster {
         }
     }
 
-    /// Makes room for `count` more entries. What is in the roster stays, whatever the answer.
+    /// Makes room for `count` more entries. An `Err` means that an allocation failed. The entries stay in either case.
     pub fn reserve(&mut self, count: usize) -> Result<(), NoMemory>
         ensures same { self.new ≡ record self.old { room = self.new.room } }
         ensures ok { OnOk result (count ≤ self.new.room) }
@@ -58,7 +58,7 @@ impl Roster {
         self.entries.reserve(count)
     }
 
-    /// Adds an entry at the end. With room it takes no memory.
+    /// Appends an entry. With room it cannot fail; an `Err` means that an allocation failed, and the entries stay.
     pub fn push(&mut self, entry: RosterEntry) -> Result<(), NoMemory>
         requires { IsLawfulEntry self.old.nodes self.old.spares self.old.entries entry }
         ensures ok { OnOk result
@@ -72,16 +72,16 @@ impl Roster {
         Ok(())
     }
 
-    // What a roster keeps: it is lawful, and of a size that there may be.
+    // Each roster is lawful, and its cluster has a lawful size.
     pub(crate) fn lawful(&self)
         ensures size { IsClusterSize self.now.nodes self.now.spares }
         ensures lawful { IsLawfulRoster self.now.nodes self.now.spares self.now.entries }
     {
-        // A look inside, where the invariant is known.
+        // To read a field is to know the invariant.
         let _nodes = self.nodes;
     }
 
-    /// How many entries there are.
+    /// Returns how many entries there are.
     pub fn len(&self) -> u32
         ensures count { result ≡ length self.now.entries }
         ensures few { result ≤ ENTRIES_MAX }
@@ -89,22 +89,23 @@ impl Roster {
         self.entries.len() as u32
     }
 
-    /// Whether there is no entry.
+    /// Returns whether there is no entry.
     pub fn is_empty(&self) -> bool
         ensures { IsTrue result ↔ (self.now.entries ≡ []) }
     {
         self.entries.is_empty()
     }
 
-    /// The `k`-th entry, counted from 1, or `None` where there is none.
+    /// Returns the `k`-th entry, counted from 1, if there is one.
     pub fn entry(&self, k: u32) -> Option<RosterEntry>
         ensures { result ≡ entry_at self.now.entries k }
     {
-        let place = k.checked_sub(1)?;
-        self.entries.at(place as usize).copied()
+        let index = k.checked_sub(1)?;
+        self.entries.at(index as usize).copied()
     }
 
-    /// The roles of the virtual node after the first `k` entries. After all of them they are found without a walk.
+    /// Returns the roles of the virtual node after the first `k` entries. After all of them it walks none; no contract
+    /// says so.
     pub fn roles(&self, k: u32, virtual_node: u32) -> Roles
         requires noted { k ≤ length self.now.entries }
         requires known { virtual_node < self.now.nodes }
@@ -119,8 +120,8 @@ impl Roster {
         roles_after(self.nodes, &entries[..k as usize], virtual_node)
     }
 
-    /// Whether the node has not stopped in the first `k` entries. The front, which never stops, lives.
-    /// After all entries it is found without a walk.
+    /// Returns whether the node has not stopped in the first `k` entries. The front, which never stops, lives. After all
+    /// entries it walks none; no contract says so.
     pub fn living(&self, k: u32, node: u32) -> bool
         requires { k ≤ length self.now.entries }
         ensures noted { result ≡ is_living (take k self.now.entries) node }
@@ -140,8 +141,9 @@ impl Roster {
         (node as usize) < NODES_MAX && self.standing.has_stopped(node)
     }
 
-    /// Whether the stop of the node is admitted. It is refused where there is no such node, where the
-    /// node has stopped, and where it is the only member of a virtual node, tested in this order.
+    /// Returns whether the stop of the node is admitted, and otherwise why it is refused.
+    ///
+    /// The tests come in this order: there is no such node, it has stopped, it is the only member of a virtual node.
     pub fn may_stop(&self, node: u32) -> Result<(), StopFault>
         ensures { result ≡ stop_verdict self.now.nodes self.now.spares self.now.entries node }
     {
@@ -164,8 +166,9 @@ impl Roster {
         (0..self.nodes).find(|virtual_node| self.standing.roles(*virtual_node).is_only(node))
     }
 
-    /// Whether the node may become the standby of the virtual node: the virtual node is there and has no
-    /// standby, and the node is there, has not stopped and is not its primary.
+    /// Returns whether the node may become the standby of the virtual node.
+    ///
+    /// The virtual node must be there without a standby. The node must be there, live, and not be its primary.
     pub fn may_repair(&self, virtual_node: u32, node: u32) -> bool
         ensures { IsTrue result
             ↔ IsLawfulEntry self.now.nodes self.now.spares self.now.entries (RosterEntry.Repaired virtual_node node) }
@@ -177,8 +180,8 @@ impl Roster {
         roles.standby.is_none() && roles.primary != node && !self.has_stopped(node)
     }
 
-    /// The spare that repairs a virtual node without standby: the lowest living one on the site other
-    /// than that of its primary, or `None` where there is none.
+    /// Returns the spare that repairs a virtual node without a standby, if there is one: the lowest living spare on the
+    /// site other than that of its primary.
     pub fn spare_for(&self, virtual_node: u32) -> Option<u32>
         requires known { virtual_node < self.now.nodes }
         requires lone { (roles_after self.now.nodes self.now.entries virtual_node).standby ≡ None }

@@ -1,4 +1,4 @@
-//! The roles and the stops after the whole roster, so that they are found without a walk.
+//! The roles and the stops after the whole roster, kept so that no look-up walks the entries.
 ghost use Rattle.std.specs.Prelude.{◌≡◌, ◌<◌, ◌≤◌, ◌||◌, ◌++◌, ◌∷◌, [], ℕ, Bool, List};
 ghost use Rattle.std.specs.List.{slice_index_or};
 ghost use Rattle.cl_roster.specs.Roles.{first_roles, after_entry};
@@ -25,7 +25,7 @@ fn all_first(nodes: u32) -> [Roles; VIRTUAL_NODES_MAX]
     roles
 }
 
-// Takes one entry more into the roles of each virtual node.
+// Updates the roles of each virtual node by one more entry.
 fn note_roles(roles: &mut [Roles; VIRTUAL_NODES_MAX], entry: RosterEntry)
     ensures { (v : ℕ) (d : Roles) → v < VIRTUAL_NODES_MAX
         → slice_index_or roles.new v d ≡ after_entry v (slice_index_or roles.old v d) entry }
@@ -35,15 +35,15 @@ fn note_roles(roles: &mut [Roles; VIRTUAL_NODES_MAX], entry: RosterEntry)
     }
 }
 
-// Takes one entry more into the flags.
+// Updates the flags by one more entry.
 fn note_stop(stopped: &mut [bool; NODES_MAX], entry: RosterEntry)
     ensures { (n : ℕ) (d : Bool) → n < NODES_MAX
         → slice_index_or stopped.new n d ≡ (slice_index_or stopped.old n d || is_stop_of n entry) }
 {
     if let RosterEntry::Stopped(node) = entry {
-        let place = node as usize;
-        if place < NODES_MAX {
-            stopped[place] = true;
+        let index = node as usize;
+        if index < NODES_MAX {
+            stopped[index] = true;
         }
     }
 }
@@ -53,7 +53,7 @@ impl Standing {
     ghost use Rattle.cl_roster.specs.Roster.{has_stopped};
     ghost use Rattle.cl_roster.specs.Standing.{Stands};
 
-    // Before the first entry, in a cluster with so many nodes.
+    // What stands before the first entry, in a cluster with so many nodes.
     pub(crate) fn first(nodes: u32) -> Standing
         requires { 0 < nodes }
         ensures { Stands nodes [] result }
@@ -64,7 +64,7 @@ impl Standing {
         }
     }
 
-    // Takes one entry more.
+    // Updates both by one more entry.
     pub(crate) fn note(&mut self, entry: RosterEntry)
         ensures { (nodes : ℕ) (entries : List RosterEntry) → Stands nodes entries self.old
             → Stands nodes (entries ++ entry ∷ []) self.new }
