@@ -10,8 +10,8 @@ use Rattle.cl_types.specs.declared.operations.Mode.TheVariants.{Shared, Exclusiv
 use Rattle.cl_types.specs.declared.operations.TxnId.{TxnId}
 use Rattle.cl_fields.specs.declared.undecoded.WireFault.TheVariants as faults
 use Rattle.cl_fields.specs.Spelling.{byte, number_32, number_64, amount_bytes, flag_byte, mode_byte, txn_bytes}
-use Rattle.cl_fields.specs.Range.{IsPlace, IsIndex, IsNumber, IsTxn, IsAmount}
-use Rattle.cl_fields.specs.Reading.{Read, read_byte, read_bytes, read_between, read_number, read_positive, read_amount, read_flag, read_mode, read_place, read_txn}
+use Rattle.cl_fields.specs.Range.{IsCommandNumber, IsIndex, IsNumber, IsTxn, IsAmount}
+use Rattle.cl_fields.specs.Reading.{Read, read_byte, read_bytes, read_between, read_number, read_positive, read_amount, read_flag, read_mode, read_command_number, read_txn}
 use Rattle.cl_fields.proofs.Lengths.{between_high, between_low}
 use Rattle.cl_fields.proofs.Readers.{IsBytes, same_found, Taken, Takes, IsSpelled, Again, takes_bind, takes_done, takes_passed, takes_nothing, takes_if, takes_last, takes_as, again_bind, again_done, again_passed, again_last}
 
@@ -170,13 +170,13 @@ pub again_number : (n : ℕ) → IsNumber n → Again (read_positive w64) (numbe
 unfolding read_positive
 again_number n fits = again_passed _ _ _ _ (again_64 n fits.high) (le-leb 1 n fits.low)
 
-pub takes_place : Takes read_place (IsSpelled number_32 IsPlace)
-unfolding read_place
-takes_place = takes_passed _ _ _ _ takes_32 (λ n text h passes. record { text = h.text; fits = leb-true n 65 passes })
+pub takes_command_number : Takes read_command_number (IsSpelled number_32 IsCommandNumber)
+unfolding read_command_number
+takes_command_number = takes_passed _ _ _ _ takes_32 (λ n text h passes. record { text = h.text; fits = leb-true n 65 passes })
 
-pub again_place : (n : ℕ) → IsPlace n → Again read_place (number_32 n) n
-unfolding read_place
-again_place n fits = again_passed _ _ _ _ (again_32 n (omega arith)) (le-leb n 65 fits)
+pub again_command_number : (n : ℕ) → IsCommandNumber n → Again read_command_number (number_32 n) n
+unfolding read_command_number
+again_command_number n fits = again_passed _ _ _ _ (again_32 n (omega arith)) (le-leb n 65 fits)
 
 signed_fits : (n : ℕ) → n < 2 ^ 64 → FitsSigned w64 (cast_signed w64 n)
 signed_fits n below = search (rules, arith)

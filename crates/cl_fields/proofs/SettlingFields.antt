@@ -3,7 +3,7 @@ use Rattle.std.proofs.Common.{ℕ, zero, suc, ◌==◌}
 use Rattle.std.specs.Int.{Width}
 use Rattle.cl_types.specs.declared.operations.Command.TheVariants.{Work}
 use Rattle.cl_types.specs.Names.{is_between}
-use Rattle.cl_fields.specs.Reading.{Reader, read_between, read_number, read_positive, read_amount, read_flag, read_mode, read_place, read_txn, read_text, read_table, read_key, read_value_length, read_value, read_image, read_form, read_operand, read_work, read_op, read_command, read_reply, read_cause, read_outcome, read_answer, read_touch, read_set, read_add, read_comp, read_end, read_entry, read_item, read_members, read_list}
+use Rattle.cl_fields.specs.Reading.{Reader, read_between, read_number, read_positive, read_amount, read_flag, read_mode, read_command_number, read_txn, read_text, read_table, read_key, read_value_length, read_value, read_image, read_form, read_operand, read_work, read_op, read_command, read_reply, read_cause, read_outcome, read_answer, read_touch, read_set, read_add, read_comp, read_end, read_entry, read_item, read_members, read_list}
 use Rattle.cl_fields.proofs.Settling.{Settles, settles_bind, settles_done, settles_nothing, settles_if, settles_last, settles_passed, settles_byte, settles_bytes}
 
 pub settles_between : {K : Type 0} (low : ℕ) (high : ℕ) → Settles K (read_between low high)
@@ -32,9 +32,9 @@ unfolding read_mode
 settles_mode = settles_bind _ _ settles_byte (λ b.
     settles_if (b == 1) _ _ (settles_done _) (settles_if (b == 2) _ _ (settles_done _) (settles_nothing)))
 
-pub settles_place : {K : Type 0} → Settles K read_place
-unfolding read_place
-settles_place = settles_passed _ _ (settles_number _)
+pub settles_command_number : {K : Type 0} → Settles K read_command_number
+unfolding read_command_number
+settles_command_number = settles_passed _ _ (settles_number _)
 
 pub settles_txn : {K : Type 0} → Settles K read_txn
 unfolding read_txn

@@ -2,6 +2,7 @@
 use Rattle.std.specs.Prelude.{◌≡◌, ℕ, ◌^◌, ◌<◌, ◌≤◌, true, List, length, Option, Some, None, ℤ, FitsSigned}
 use Rattle.std.specs.List.{All}
 use Rattle.std.specs.Int.{w64}
+use Rattle.cl_types.specs.declared.limits.TheConstants.{SESSIONS_MAX}
 use Rattle.cl_types.specs.Names.{is_table_name, is_key, is_value}
 use Rattle.cl_types.specs.declared.operations.TxnId.{TxnId}
 use Rattle.cl_types.specs.declared.operations.Op.{Op}
@@ -21,20 +22,21 @@ use Rattle.cl_log.specs.declared.records.Form.TheVariants.{Image, Amount}
 use Rattle.cl_log.specs.declared.records.LogRec.{LogRec}
 use Rattle.cl_log.specs.declared.records.LogRec.TheVariants as entries
 use Rattle.cl_store.specs.declared.item.Item.{Item}
+use Rattle.cl_fields.specs.declared.limits.TheConstants.{ACTOR_MAX, NODE_MAX, VIRTUAL_NODE_MAX, COMMAND_NUMBER_MAX, LIST_MAX}
 
 -- a node, or the front
 abbrev pub IsActor : ℕ → Type 0
-IsActor actor = actor ≤ 16
+IsActor actor = actor ≤ ACTOR_MAX
 
 abbrev pub IsNode : ℕ → Type 0
-IsNode node = node ≤ 15
+IsNode node = node ≤ NODE_MAX
 
 abbrev pub IsVirtualNode : ℕ → Type 0
-IsVirtualNode v = v ≤ 7
+IsVirtualNode v = v ≤ VIRTUAL_NODE_MAX
 
--- the place of a command in its transaction
-abbrev pub IsPlace : ℕ → Type 0
-IsPlace place = place ≤ 65
+-- the number of a command in its transaction
+abbrev pub IsCommandNumber : ℕ → Type 0
+IsCommandNumber number = number ≤ COMMAND_NUMBER_MAX
 
 -- the index of a piece of a copy
 pub record IsIndex (index : ℕ) : Type 0 where
@@ -48,7 +50,7 @@ pub record IsNumber (number : ℕ) : Type 0 where
 
 pub record IsTxn (txn : TxnId) : Type 0 where
   pub low : 1 ≤ txn.session
-  pub high : txn.session ≤ 64
+  pub high : txn.session ≤ SESSIONS_MAX
   pub number : IsNumber txn.number
 
 abbrev pub IsTable : List ℕ → Type 0
@@ -124,7 +126,7 @@ pub record IsItem (item : Item) : Type 0 where
   pub number : IsNumber item.number
   pub value : IsImage item.value
 
--- at most four members, each in range
+-- few enough members for a list, each in range
 pub record AreFew {A : Type 0} (IsMember : A → Type 0) (members : List A) : Type 0 where
-  pub few : length members ≤ 4
+  pub few : length members ≤ LIST_MAX
   pub each : All IsMember members

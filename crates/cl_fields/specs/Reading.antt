@@ -1,6 +1,8 @@
 -- Reading fields from the left of the bytes, or the fault of the first that cannot be read.
 use Rattle.std.specs.Prelude.{◌≡◌, ℕ, zero, suc, Bool, true, false, nat_le, nat_lt, ◌==◌, if◌then◌else◌, List, [], ◌∷◌, length, take, drop, Option, Some, None, ℤ, Result, Ok, Err}
 use Rattle.std.specs.Int.{Width, w16, w32, w64, byte_len, from_be_bytes, cast_signed}
+use Rattle.cl_types.specs.declared.limits.TheConstants.{SESSIONS_MAX}
+use Rattle.cl_types.specs.declared.value.TheConstants.{VALUE_MAX}
 use Rattle.cl_types.specs.Names.{is_between, is_table_name, is_key, is_value}
 use Rattle.cl_types.specs.declared.operations.TxnId.{TxnId}
 use Rattle.cl_types.specs.declared.operations.Mode.{Mode}
@@ -22,6 +24,7 @@ use Rattle.cl_log.specs.declared.records.Form.TheVariants.{Image, Amount}
 use Rattle.cl_log.specs.declared.records.LogRec.{LogRec}
 use Rattle.cl_log.specs.declared.records.LogRec.TheVariants as entries
 use Rattle.cl_store.specs.declared.item.Item.{Item}
+use Rattle.cl_fields.specs.declared.limits.TheConstants.{ACTOR_MAX, NODE_MAX, VIRTUAL_NODE_MAX, COMMAND_NUMBER_MAX, LIST_MAX}
 use Rattle.cl_fields.specs.declared.undecoded.WireFault.{WireFault}
 use Rattle.cl_fields.specs.declared.undecoded.WireFault.TheVariants as faults
 use Rattle.cl_fields.specs.declared.undecoded.Undecoded.{Undecoded}
@@ -98,22 +101,22 @@ read_mode = do
   if b == 1 then done Shared else (if b == 2 then done Exclusive else out_of_range)
 
 abbrev pub read_actor : Reader ℕ
-read_actor = read_between 0 16
+read_actor = read_between 0 ACTOR_MAX
 
 abbrev pub read_node : Reader ℕ
-read_node = read_between 0 15
+read_node = read_between 0 NODE_MAX
 
 abbrev pub read_virtual_node : Reader ℕ
-read_virtual_node = read_between 0 7
+read_virtual_node = read_between 0 VIRTUAL_NODE_MAX
 
-unfoldable pub read_place : Reader ℕ
-read_place = do
-  place ← read_number w32
-  checked (nat_le place 65) place
+unfoldable pub read_command_number : Reader ℕ
+read_command_number = do
+  number ← read_number w32
+  checked (nat_le number COMMAND_NUMBER_MAX) number
 
 unfoldable pub read_txn : Reader TxnId
 read_txn = do
-  session ← read_between 1 64
+  session ← read_between 1 SESSIONS_MAX
   number ← read_positive w64
   done (record { session = session; number = number })
 
@@ -133,11 +136,11 @@ read_key = do
   text ← read_text
   checked (is_key text) text
 
--- the length of a value: 1 to 128
+-- the length of a value
 unfoldable pub read_value_length : Reader ℕ
 read_value_length = do
   count ← read_number w16
-  checked (is_between 1 128 count) count
+  checked (is_between 1 VALUE_MAX count) count
 
 -- the length, and then that many bytes
 unfoldable pub read_value : Reader (List ℕ)
@@ -291,10 +294,10 @@ read_members read_member (suc count) = do
   others ← read_members read_member count
   done (first ∷ others)
 
--- a byte of length, at most 4, and the members
+-- a byte of length, and the members
 unfoldable pub read_list : {A : Type 0} → Reader A → Reader (List A)
 read_list read_member = do
-  count ← read_between 0 4
+  count ← read_between 0 LIST_MAX
   read_members read_member count
 
 -- a reader of the code answered what reading gives, seen by view, and left what reading leaves; or memory ran out

@@ -63,7 +63,7 @@ impl<'a> Reader<'a> {
         Ok(LogRec::End(self.txn()?, self.flag()?))
     }
 
-    /// A record of a log.
+    /// Reads a record of a log.
     #[tactic(auto, unfolding(crate::specs::Reading::read_entry))]
     pub fn entry(&mut self, alloc: Global) -> Result<LogRec, Undecoded>
         ensures { ReadsField result self.new (read_entry self.old) }

@@ -1,54 +1,54 @@
 //! Reading the fields of packets.
 ghost use Rattle.std.specs.Prelude.{◌≡◌};
-ghost use Rattle.cl_fields.specs.Reading.{Gives, ReadsField, read_actor, read_node, read_virtual_node, read_place, read_mode, read_txn, read_text, read_table, read_key, read_value_length, read_value, read_image, read_form, read_operand, read_work, read_op, read_command, read_reply, read_cause, read_outcome, read_answer, read_item};
+ghost use Rattle.cl_fields.specs.Reading.{Gives, ReadsField, read_actor, read_node, read_virtual_node, read_command_number, read_mode, read_txn, read_text, read_table, read_key, read_value_length, read_value, read_image, read_form, read_operand, read_work, read_op, read_command, read_reply, read_cause, read_outcome, read_answer, read_item};
 
 use crate::WireFault;
-use crate::limits::{ACTOR_MAX, NODE_MAX, PLACE_MAX, SESSION_MAX, VIRTUAL_NODE_MAX};
+use crate::limits::{ACTOR_MAX, COMMAND_NUMBER_MAX, NODE_MAX, VIRTUAL_NODE_MAX};
 use crate::reader::Reader;
 use crate::undecoded::Undecoded;
 use cl_log::Form;
 use cl_store::Item;
 use cl_types::{
-    AbortCause, Answer, Command, Key, Mode, Op, Outcome, Reply, TableName, TxnId, VALUE_MAX, Value,
+    AbortCause, Answer, Command, Key, Mode, Op, Outcome, Reply, SESSIONS_MAX, TableName, TxnId, VALUE_MAX, Value,
 };
 use std::alloc::Global;
 
 impl<'a> Reader<'a> {
-    /// An actor: a node, or the front, 0 to 16.
+    /// Reads an actor: a node, or the front.
     pub fn actor(&mut self) -> Result<u32, Undecoded>
         ensures { ReadsField result self.new (read_actor self.old) }
     {
         self.between(0, ACTOR_MAX)
     }
 
-    /// A virtual node, 0 to 7.
+    /// Reads a virtual node.
     pub fn virtual_node(&mut self) -> Result<u32, Undecoded>
         ensures { ReadsField result self.new (read_virtual_node self.old) }
     {
         self.between(0, VIRTUAL_NODE_MAX)
     }
 
-    /// The place of a command in its transaction, 0 to 65.
-    #[tactic(auto, unfolding(crate::specs::Reading::read_place))]
-    pub fn place(&mut self) -> Result<u32, Undecoded>
-        ensures { ReadsField result self.new (read_place self.old) }
+    /// Reads the number of a command in its transaction, 0 to `COMMAND_NUMBER_MAX`.
+    #[tactic(auto, unfolding(crate::specs::Reading::read_command_number))]
+    pub fn command_number(&mut self) -> Result<u32, Undecoded>
+        ensures { ReadsField result self.new (read_command_number self.old) }
     {
-        let place = self.u32()?;
-        if place <= PLACE_MAX {
-            Ok(place)
+        let command_number = self.u32()?;
+        if command_number <= COMMAND_NUMBER_MAX {
+            Ok(command_number)
         } else {
             Err(WireFault::Field.into())
         }
     }
 
-    /// A node, 0 to 15.
+    /// Reads a node.
     pub fn node(&mut self) -> Result<u32, Undecoded>
         ensures { ReadsField result self.new (read_node self.old) }
     {
         self.between(0, NODE_MAX)
     }
 
-    /// The mode of a lock.
+    /// Reads the mode of a lock.
     #[tactic(auto, unfolding(crate::specs::Reading::read_mode))]
     pub(crate) fn mode(&mut self) -> Result<Mode, Undecoded>
         ensures { ReadsField result self.new (read_mode self.old) }
@@ -60,17 +60,17 @@ impl<'a> Reader<'a> {
         }
     }
 
-    /// The name of a transaction: a session, 1 to 64, and a number, at least 1.
+    /// Reads the name of a transaction: a session, 1 to `SESSIONS_MAX`, and a number, at least 1.
     #[tactic(auto, unfolding(crate::specs::Reading::read_txn))]
     pub fn txn(&mut self) -> Result<TxnId, Undecoded>
         ensures { ReadsField result self.new (read_txn self.old) }
     {
-        let session = self.between(1, SESSION_MAX)?;
+        let session = self.between(1, SESSIONS_MAX as u8)?;
         let number = self.number()?;
         Ok(TxnId { session, number })
     }
 
-    // The bytes of a name, behind their length.
+    // Reads the bytes of a name, after their length.
     #[tactic(auto, unfolding(crate::specs::Reading::read_text))]
     fn text(&mut self) -> Result<&'a [u8], Undecoded>
         ensures { Gives (λ found. found.now) result self.new (read_text self.old) }
@@ -79,7 +79,7 @@ impl<'a> Reader<'a> {
         self.bytes(usize::from(count))
     }
 
-    /// The name of a table.
+    /// Reads the name of a table.
     #[tactic(auto, unfolding(crate::specs::Reading::read_table))]
     pub(crate) fn table(&mut self) -> Result<TableName, Undecoded>
         ensures { ReadsField result self.new (read_table self.old) }
@@ -91,7 +91,7 @@ impl<'a> Reader<'a> {
         }
     }
 
-    /// A key.
+    /// Reads a key.
     #[tactic(auto, unfolding(crate::specs::Reading::read_key))]
     pub(crate) fn key(&mut self) -> Result<Key, Undecoded>
         ensures { ReadsField result self.new (read_key self.old) }
@@ -103,7 +103,7 @@ impl<'a> Reader<'a> {
         }
     }
 
-    // The length of a value.
+    // Reads the length of a value.
     #[tactic(auto, unfolding(crate::specs::Reading::read_value_length))]
     fn value_length(&mut self) -> Result<usize, Undecoded>
         ensures { ReadsField result self.new (read_value_length self.old) }
@@ -116,7 +116,7 @@ impl<'a> Reader<'a> {
         }
     }
 
-    /// A value.
+    /// Reads a value.
     #[tactic(auto, unfolding(crate::specs::Reading::read_value))]
     pub(crate) fn value(&mut self, alloc: Global) -> Result<Value, Undecoded>
         ensures { ReadsField result self.new (read_value self.old) }
@@ -129,7 +129,7 @@ impl<'a> Reader<'a> {
         }
     }
 
-    /// A value, or nothing.
+    /// Reads a value, or that there is none.
     #[tactic(auto, unfolding(crate::specs::Reading::read_image))]
     pub(crate) fn image(&mut self, alloc: Global) -> Result<Option<Value>, Undecoded>
         ensures { ReadsField result self.new (read_image self.old) }
@@ -141,7 +141,7 @@ impl<'a> Reader<'a> {
         }
     }
 
-    /// What a compensation does.
+    /// Reads what a compensation does.
     #[tactic(auto, unfolding(crate::specs::Reading::read_form))]
     pub(crate) fn form(&mut self, alloc: Global) -> Result<Form, Undecoded>
         ensures { ReadsField result self.new (read_form self.old) }
@@ -153,7 +153,7 @@ impl<'a> Reader<'a> {
         }
     }
 
-    // What stands after the key of an operation with this byte.
+    // Reads what stands after the key of the operation with this byte.
     #[tactic(auto, unfolding(crate::specs::Reading::read_operand))]
     fn operand(&mut self, alloc: Global, byte: u32) -> Result<Op, Undecoded>
         ensures { ReadsField result self.new (read_operand byte self.old) }
@@ -167,7 +167,7 @@ impl<'a> Reader<'a> {
         }
     }
 
-    // An operation on a record, after its byte.
+    // Reads an operation on a record, after its byte.
     #[tactic(auto, unfolding(crate::specs::Reading::read_work))]
     fn work(&mut self, alloc: Global, byte: u32) -> Result<(TableName, Key, Op), Undecoded>
         ensures { ReadsField result self.new (read_work byte self.old) }
@@ -178,7 +178,7 @@ impl<'a> Reader<'a> {
         Ok((table, key, op))
     }
 
-    /// An operation on a record: a table, a key, and what is done there.
+    /// Reads an operation on a record: a table, a key, and what is done there.
     #[tactic(auto, unfolding(crate::specs::Reading::read_op))]
     pub fn op(&mut self, alloc: Global) -> Result<(TableName, Key, Op), Undecoded>
         ensures { ReadsField result self.new (read_op self.old) }
@@ -187,7 +187,7 @@ impl<'a> Reader<'a> {
         self.work(alloc, byte)
     }
 
-    /// A client's command.
+    /// Reads a client's command.
     #[tactic(auto, unfolding(crate::specs::Reading::read_command))]
     pub fn command(&mut self, alloc: Global) -> Result<Command, Undecoded>
         ensures { ReadsField result self.new (read_command self.old) }
@@ -204,7 +204,7 @@ impl<'a> Reader<'a> {
         }
     }
 
-    /// A record of a store.
+    /// Reads a record of a store.
     #[tactic(auto, unfolding(crate::specs::Reading::read_item))]
     pub(crate) fn item(&mut self, alloc: Global) -> Result<Item, Undecoded>
         ensures { ReadsField result self.new (read_item self.old) }
@@ -217,7 +217,7 @@ impl<'a> Reader<'a> {
         })
     }
 
-    /// The reply to an operation.
+    /// Reads the reply to an operation.
     #[tactic(auto, unfolding(crate::specs::Reading::read_reply))]
     pub(crate) fn reply(&mut self, alloc: Global) -> Result<Reply, Undecoded>
         ensures { ReadsField result self.new (read_reply self.old) }
@@ -233,7 +233,7 @@ impl<'a> Reader<'a> {
         }
     }
 
-    // Why a transaction was aborted.
+    // Reads why a transaction was aborted.
     #[tactic(auto, unfolding(crate::specs::Reading::read_cause))]
     fn cause(&mut self) -> Result<AbortCause, Undecoded>
         ensures { ReadsField result self.new (read_cause self.old) }
@@ -247,7 +247,7 @@ impl<'a> Reader<'a> {
         }
     }
 
-    /// The outcome of a command that goes to a controller.
+    /// Reads the outcome of a command that goes to a controller.
     #[tactic(auto, unfolding(crate::specs::Reading::read_outcome))]
     pub fn outcome(&mut self, alloc: Global) -> Result<Outcome, Undecoded>
         ensures { ReadsField result self.new (read_outcome self.old) }
@@ -261,7 +261,7 @@ impl<'a> Reader<'a> {
         }
     }
 
-    /// A participant's answer.
+    /// Reads a participant's answer.
     #[tactic(auto, unfolding(crate::specs::Reading::read_answer))]
     pub fn answer(&mut self, alloc: Global) -> Result<Answer, Undecoded>
         ensures { ReadsField result self.new (read_answer self.old) }

@@ -10,14 +10,14 @@ use cl_store::ItemList;
 use std::alloc::Global;
 
 impl<'a> Reader<'a> {
-    // How many members a list has.
+    // Reads how many members a list has.
     fn count(&mut self) -> Result<u32, Undecoded>
-        ensures { ReadsField result self.new (read_between 0 4 self.old) }
+        ensures { ReadsField result self.new (read_between 0 LIST_MAX self.old) }
     {
         self.between(0, LIST_MAX)
     }
 
-    // So many records of a store.
+    // Reads so many records of a store.
     fn item_members(&mut self, alloc: Global, count: u32) -> Result<ItemList, Undecoded>
         ensures { Gives items result self.new (read_members read_item count self.old) }
     {
@@ -29,7 +29,7 @@ impl<'a> Reader<'a> {
         Ok(list)
     }
 
-    // So many names of transactions.
+    // Reads so many names of transactions.
     fn txn_members(&mut self, alloc: Global, count: u32) -> Result<TxnList, Undecoded>
         ensures { Gives items result self.new (read_members read_txn count self.old) }
     {
@@ -41,7 +41,7 @@ impl<'a> Reader<'a> {
         Ok(list)
     }
 
-    /// At most four records of a store.
+    /// Reads at most `LIST_MAX` records of a store.
     #[tactic(auto, unfolding(crate::specs::Reading::read_list))]
     pub fn items(&mut self, alloc: Global) -> Result<ItemList, Undecoded>
         ensures { Gives items result self.new (read_list read_item self.old) }
@@ -50,7 +50,7 @@ impl<'a> Reader<'a> {
         self.item_members(alloc, count)
     }
 
-    /// At most four names of transactions.
+    /// Reads at most `LIST_MAX` names of transactions.
     #[tactic(auto, unfolding(crate::specs::Reading::read_list))]
     pub fn txns(&mut self, alloc: Global) -> Result<TxnList, Undecoded>
         ensures { Gives items result self.new (read_list read_txn self.old) }

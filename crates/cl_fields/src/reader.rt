@@ -6,12 +6,15 @@ ghost use Rattle.cl_fields.specs.Reading.{Gives, ReadsField, read_byte, read_byt
 use crate::{Undecoded, WireFault};
 use std::marker::Model;
 
-/// The bytes that are not read yet. Contracts see the list of them.
+/// The bytes that are left to read. Contracts see the list of them.
 ///
-/// Each call reads one field from the left. Its error is `Fault(Short)` where too few bytes are left
-/// and `Fault(Field)` where the field is out of its range, whichever is met first, and `NoMemory`
-/// where memory is wanting, which only calls that are given an allocator can meet. After an error a
-/// reader is of no use.
+/// Each call reads one field from the left. Its error is the first that is met:
+///
+/// - `Fault(Short)`: too few bytes are left.
+/// - `Fault(Field)`: the field is out of its range.
+/// - `NoMemory`: an allocation failed, which only calls that are given an allocator answer.
+///
+/// No contract says what a reader has left after an error.
 #[derive(Drop)]
 pub struct Reader<'a> {
     left: &'a [u8],
@@ -26,21 +29,21 @@ impl<'a> Model for Reader<'a> {
 }
 
 impl<'a> Reader<'a> {
-    /// A reader of these bytes.
+    /// Makes a reader of these bytes.
     pub fn of(bytes: &'a [u8]) -> Reader<'a>
         ensures { result ≡ bytes.now }
     {
         Reader { left: bytes }
     }
 
-    /// Whether every byte is read.
+    /// Returns whether every byte is read.
     pub fn is_at_end(&self) -> bool
         ensures { result ≡ (length self.now == 0) }
     {
         self.left.is_empty()
     }
 
-    /// The next byte.
+    /// Reads the next byte.
     #[tactic(auto, unfolding(crate::specs::Reading::read_byte))]
     pub fn byte(&mut self) -> Result<u8, Undecoded>
         ensures { ReadsField result self.new (read_byte self.old) }
@@ -55,7 +58,7 @@ impl<'a> Reader<'a> {
         }
     }
 
-    /// So many bytes.
+    /// Reads `count` bytes.
     #[tactic(auto, unfolding(crate::specs::Reading::read_bytes))]
     pub(crate) fn bytes(&mut self, count: usize) -> Result<&'a [u8], Undecoded>
         ensures read { Gives (λ found. found.now) result self.new (read_bytes count self.old) }
@@ -69,7 +72,7 @@ impl<'a> Reader<'a> {
         Ok(found)
     }
 
-    /// A byte from `low` to `high`, both of them in the range.
+    /// Reads a byte from `low` to `high`, both included.
     #[tactic(auto, unfolding(crate::specs::Reading::read_between))]
     pub fn between(&mut self, low: u8, high: u8) -> Result<u32, Undecoded>
         ensures { ReadsField result self.new (read_between low high self.old) }
@@ -82,7 +85,7 @@ impl<'a> Reader<'a> {
         }
     }
 
-    /// A number of two bytes.
+    /// Reads a number of two bytes, the most significant first.
     #[tactic(auto, unfolding(crate::specs::Reading::read_number))]
     pub(crate) fn u16(&mut self) -> Result<u16, Undecoded>
         ensures { ReadsField result self.new (read_number w16 self.old) }
@@ -91,7 +94,7 @@ impl<'a> Reader<'a> {
         Ok(u16::from_be_bytes([bytes[0], bytes[1]]))
     }
 
-    /// A number of four bytes, any.
+    /// Reads a number of four bytes, the most significant first.
     #[tactic(auto, unfolding(crate::specs::Reading::read_number))]
     pub fn u32(&mut self) -> Result<u32, Undecoded>
         ensures { ReadsField result self.new (read_number w32 self.old) }
@@ -100,7 +103,7 @@ impl<'a> Reader<'a> {
         Ok(u32::from_be_bytes([bytes[0], bytes[1], bytes[2], bytes[3]]))
     }
 
-    /// A number of eight bytes, any.
+    /// Reads a number of eight bytes, the most significant first.
     #[tactic(auto, unfolding(crate::specs::Reading::read_number))]
     pub fn u64(&mut self) -> Result<u64, Undecoded>
         ensures { ReadsField result self.new (read_number w64 self.old) }
@@ -111,7 +114,7 @@ impl<'a> Reader<'a> {
         ]))
     }
 
-    /// A number of four bytes that is at least 1.
+    /// Reads a number of four bytes that is at least 1.
     #[tactic(auto, unfolding(crate::specs::Reading::read_positive))]
     pub fn index(&mut self) -> Result<u32, Undecoded>
         ensures { ReadsField result self.new (read_positive w32 self.old) }
@@ -123,7 +126,7 @@ impl<'a> Reader<'a> {
         Ok(index)
     }
 
-    /// A number of eight bytes that is at least 1.
+    /// Reads a number of eight bytes that is at least 1.
     #[tactic(auto, unfolding(crate::specs::Reading::read_positive))]
     pub fn number(&mut self) -> Result<u64, Undecoded>
         ensures { ReadsField result self.new (read_positive w64 self.old) }
@@ -135,7 +138,7 @@ impl<'a> Reader<'a> {
         Ok(number)
     }
 
-    /// A number of eight bytes in two's complement.
+    /// Reads eight bytes in two's complement, the most significant first.
     #[tactic(auto, unfolding(crate::specs::Reading::read_amount))]
     pub(crate) fn amount(&mut self) -> Result<i64, Undecoded>
         ensures { ReadsField result self.new (read_amount self.old) }
@@ -143,7 +146,7 @@ impl<'a> Reader<'a> {
         Ok(self.u64()?.cast_signed())
     }
 
-    /// A byte that is 0 or 1.
+    /// Reads a byte that is 0 or 1.
     #[tactic(auto, unfolding(crate::specs::Reading::read_flag))]
     pub fn flag(&mut self) -> Result<bool, Undecoded>
         ensures { ReadsField result self.new (read_flag self.old) }

@@ -22,6 +22,7 @@ pub enum WireFault {
 pub enum Undecoded {
     /// The bytes are the spelling of no packet.
     Fault(WireFault),
+    /// An allocation failed.
     NoMemory,
 }
 

@@ -10,8 +10,8 @@ use std::marker::Model;
 
 /// The bytes that are written so far. Contracts see the list of them.
 ///
-/// Each call writes one field behind them. The error of each is that memory is wanting; after it a
-/// writer is of no use.
+/// Each call appends one field. Its only error is that an allocation failed, and no contract says what a writer has after
+/// it.
 #[derive(Drop)]
 pub struct Writer {
     bytes: Vec<u8>,
@@ -26,7 +26,7 @@ impl Model for Writer {
 }
 
 impl Writer {
-    /// Nothing written yet, and room for so many bytes.
+    /// Makes an empty writer. It allocates `count` bytes at once; no contract says that later calls need no more.
     pub fn with_room(alloc: Global, count: usize) -> Result<Writer, NoMemory>
         ensures { IfOk result (λ writer. writer ≡ []) }
     {
@@ -35,7 +35,7 @@ impl Writer {
         Ok(Writer { bytes })
     }
 
-    /// The bytes, first to last.
+    /// Returns the bytes, in the order in which they were written.
     pub fn into_bytes(self) -> Vec<u8>
         ensures { result.items ≡ self }
     {
@@ -66,7 +66,7 @@ impl Writer {
         self.byte(number as u8)
     }
 
-    /// Writes four bytes.
+    /// Writes four bytes, the most significant first.
     #[tactic(auto, unfolding(crate::specs::Spelling::number_32))]
     pub fn u32(&mut self, number: u32) -> Result<(), NoMemory>
         ensures { OnOk result (self.new ≡ self.old ++ number_32 number) }
@@ -74,7 +74,7 @@ impl Writer {
         self.bytes(&number.to_be_bytes())
     }
 
-    /// Writes eight bytes.
+    /// Writes eight bytes, the most significant first.
     #[tactic(auto, unfolding(crate::specs::Spelling::number_64))]
     pub fn u64(&mut self, number: u64) -> Result<(), NoMemory>
         ensures { OnOk result (self.new ≡ self.old ++ number_64 number) }
@@ -82,7 +82,7 @@ impl Writer {
         self.bytes(&number.to_be_bytes())
     }
 
-    /// Writes eight bytes in two's complement.
+    /// Writes eight bytes in two's complement, the most significant first.
     #[tactic(auto, unfolding(crate::specs::Spelling::amount_bytes))]
     pub(crate) fn amount(&mut self, amount: i64) -> Result<(), NoMemory>
         ensures { OnOk result (self.new ≡ self.old ++ amount_bytes amount) }
@@ -90,7 +90,7 @@ impl Writer {
         self.u64(amount.cast_unsigned())
     }
 
-    /// Writes a byte: 1 where the flag is true, and 0 where it is not.
+    /// Writes a byte: 1 for true, 0 for false.
     pub fn flag(&mut self, flag: bool) -> Result<(), NoMemory>
         ensures { OnOk result (self.new ≡ self.old ++ byte (flag_byte flag)) }
     {
@@ -107,7 +107,7 @@ impl Writer {
         })
     }
 
-    /// Writes the name of a transaction: a session, 1 to 64, and a number, at least 1.
+    /// Writes the name of a transaction: its session, and its number there.
     #[tactic(auto, unfolding(crate::specs::Spelling::txn_bytes))]
     pub fn txn(&mut self, txn: TxnId) -> Result<(), NoMemory>
         requires { IsTxn txn }
@@ -117,7 +117,7 @@ impl Writer {
         self.u64(txn.number)
     }
 
-    // Writes a name, behind its length.
+    // Writes the length of a name, and the name.
     #[tactic(auto, unfolding(crate::specs::Spelling::name_bytes))]
     fn name(&mut self, name: &[u8]) -> Result<(), NoMemory>
         requires { length name.now < 2 ^ 8 }
@@ -143,7 +143,7 @@ impl Writer {
         self.name(key.bytes())
     }
 
-    /// Writes a value, behind its length.
+    /// Writes the length of a value, and the value.
     #[tactic(auto, unfolding(crate::specs::Spelling::value_bytes))]
     pub(crate) fn value(&mut self, value: &Value) -> Result<(), NoMemory>
         requires { IsValue value.now }
@@ -154,7 +154,7 @@ impl Writer {
         self.bytes(bytes)
     }
 
-    /// Writes a value, or nothing.
+    /// Writes a value, or that there is none.
     #[tactic(auto, unfolding(crate::specs::Spelling::image_bytes))]
     pub(crate) fn image(&mut self, image: &Option<Value>) -> Result<(), NoMemory>
         requires { IsImage image.now }

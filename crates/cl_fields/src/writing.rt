@@ -23,7 +23,7 @@ fn op_code(op: &Op) -> u8
 }
 
 impl Writer {
-    // What stands after the key of an operation.
+    // Writes what stands after the key of an operation.
     fn operand(&mut self, op: &Op) -> Result<(), NoMemory>
         requires { IsOp op.now }
         ensures { OnOk result (self.new ≡ self.old ++ operand_bytes op.now) }
@@ -217,7 +217,7 @@ impl Writer {
         }
     }
 
-    /// Writes at most four records of a store, behind their number.
+    /// Writes how many records of a store there are, at most `LIST_MAX`, and the records.
     #[tactic(auto, unfolding(crate::specs::Spelling::list_bytes))]
     pub fn items(&mut self, list: &ItemList) -> Result<(), NoMemory>
         requires { AreFew IsItem (items list.now) }
@@ -230,7 +230,7 @@ impl Writer {
         Ok(())
     }
 
-    /// Writes at most four names of transactions, behind their number.
+    /// Writes how many names of transactions there are, at most `LIST_MAX`, and the names.
     #[tactic(auto, unfolding(crate::specs::Spelling::list_bytes))]
     pub fn txns(&mut self, list: &TxnList) -> Result<(), NoMemory>
         requires { AreFew IsTxn (items list.now) }

@@ -9,7 +9,7 @@ use Rattle.cl_wire.specs.Range.{IsContent}
 use Rattle.cl_wire.specs.PacketReading.{read_content}
 use Rattle.cl_fields.proofs.Readers.{Takes, Again, takes_bind, takes_done, takes_last, again_bind, again_done, again_as, again_last}
 use Rattle.cl_fields.proofs.Nested.{nest_3, nest_4, nest_5}
-use Rattle.cl_fields.proofs.NumberLaws.{takes_up_to, again_between, takes_64, again_64, takes_number, again_number, takes_index, again_index, takes_place, again_place, takes_flag, again_flag, takes_txn, again_txn}
+use Rattle.cl_fields.proofs.NumberLaws.{takes_up_to, again_between, takes_64, again_64, takes_number, again_number, takes_index, again_index, takes_command_number, again_command_number, takes_flag, again_flag, takes_txn, again_txn}
 use Rattle.cl_fields.proofs.NameLaws.{takes_op, again_op, takes_command, again_command}
 use Rattle.cl_fields.proofs.AnswerLaws.{takes_outcome, again_outcome, takes_answer, again_answer}
 use Rattle.cl_fields.proofs.EntryLaws.{takes_entry, again_entry}
@@ -26,27 +26,27 @@ unfolding read_content content_bytes
 takes_content kinds.Bare = takes_done _ _ (record { kind_is = refl; text = refl; fits = tt })
 takes_content kinds.Command = takes_bind _ _ _ _ (takes_up_to 7) (λ v text_1 h1.
     takes_bind _ _ _ _ takes_txn (λ txn text_2 h2.
-    takes_bind _ _ _ _ takes_place (λ place text_3 h3.
+    takes_bind _ _ _ _ takes_command_number (λ command_number text_3 h3.
     takes_last _ _ _ _ takes_command (λ asked text_4 h4.
-    let fits : IsContent (Command v txn place asked) = (h1.fits, h2.fits, h3.fits, h4.fits) in
-    record { kind_is = refl; text = rw (h1.text, h2.text, h3.text, h4.text) (nest_4 (byte v) (txn_bytes txn) (number_32 place) (command_bytes asked)); fits = fits }))))
+    let fits : IsContent (Command v txn command_number asked) = (h1.fits, h2.fits, h3.fits, h4.fits) in
+    record { kind_is = refl; text = rw (h1.text, h2.text, h3.text, h4.text) (nest_4 (byte v) (txn_bytes txn) (number_32 command_number) (command_bytes asked)); fits = fits }))))
 takes_content kinds.Outcome = takes_bind _ _ _ _ takes_txn (λ txn text_1 h1.
-    takes_bind _ _ _ _ takes_place (λ place text_2 h2.
+    takes_bind _ _ _ _ takes_command_number (λ command_number text_2 h2.
     takes_last _ _ _ _ takes_outcome (λ outcome text_3 h3.
-    let fits : IsContent (Outcome txn place outcome) = (h1.fits, h2.fits, h3.fits) in
-    record { kind_is = refl; text = rw (h1.text, h2.text, h3.text) (nest_3 (txn_bytes txn) (number_32 place) (outcome_bytes outcome)); fits = fits })))
+    let fits : IsContent (Outcome txn command_number outcome) = (h1.fits, h2.fits, h3.fits) in
+    record { kind_is = refl; text = rw (h1.text, h2.text, h3.text) (nest_3 (txn_bytes txn) (number_32 command_number) (outcome_bytes outcome)); fits = fits })))
 takes_content kinds.Ask = takes_bind _ _ _ _ (takes_up_to 7) (λ v text_1 h1.
     takes_bind _ _ _ _ takes_txn (λ txn text_2 h2.
-    takes_bind _ _ _ _ takes_place (λ place text_3 h3.
-    takes_last _ (λ work. Ask v txn place work.0 work.1 work.2) _ _ takes_op (λ work text_4 h4.
-    let fits : IsContent (Ask v txn place work.0 work.1 work.2) = (h1.fits, h2.fits, h3.fits, h4.table, h4.key, h4.op) in
-    record { kind_is = refl; text = rw (h1.text, h2.text, h3.text, h4.text) (nest_4 (byte v) (txn_bytes txn) (number_32 place) (op_bytes work.0 work.1 work.2)); fits = fits }))))
+    takes_bind _ _ _ _ takes_command_number (λ command_number text_3 h3.
+    takes_last _ (λ work. Ask v txn command_number work.0 work.1 work.2) _ _ takes_op (λ work text_4 h4.
+    let fits : IsContent (Ask v txn command_number work.0 work.1 work.2) = (h1.fits, h2.fits, h3.fits, h4.table, h4.key, h4.op) in
+    record { kind_is = refl; text = rw (h1.text, h2.text, h3.text, h4.text) (nest_4 (byte v) (txn_bytes txn) (number_32 command_number) (op_bytes work.0 work.1 work.2)); fits = fits }))))
 takes_content kinds.Answer = takes_bind _ _ _ _ (takes_up_to 7) (λ v text_1 h1.
     takes_bind _ _ _ _ takes_txn (λ txn text_2 h2.
-    takes_bind _ _ _ _ takes_place (λ place text_3 h3.
+    takes_bind _ _ _ _ takes_command_number (λ command_number text_3 h3.
     takes_last _ _ _ _ takes_answer (λ answer text_4 h4.
-    let fits : IsContent (Answer v txn place answer) = (h1.fits, h2.fits, h3.fits, h4.fits) in
-    record { kind_is = refl; text = rw (h1.text, h2.text, h3.text, h4.text) (nest_4 (byte v) (txn_bytes txn) (number_32 place) (answer_bytes answer)); fits = fits }))))
+    let fits : IsContent (Answer v txn command_number answer) = (h1.fits, h2.fits, h3.fits, h4.fits) in
+    record { kind_is = refl; text = rw (h1.text, h2.text, h3.text, h4.text) (nest_4 (byte v) (txn_bytes txn) (number_32 command_number) (answer_bytes answer)); fits = fits }))))
 takes_content kinds.Prepare = takes_bind _ _ _ _ (takes_up_to 7) (λ v text_1 h1.
     takes_last _ _ _ _ takes_txn (λ txn text_2 h2.
     let fits : IsContent (Prepare v txn) = (h1.fits, h2.fits) in
@@ -102,29 +102,29 @@ takes_content kinds.CopyAck = takes_bind _ _ _ _ (takes_up_to 7) (λ v text_1 h1
 pub again_content : (content : Content) → IsContent content → Again (read_content (kind_of content)) (content_bytes content) content
 unfolding read_content content_bytes
 again_content Bare fits = again_done _
-again_content (Command v txn place asked) fits = again_as _ _ _ _
+again_content (Command v txn command_number asked) fits = again_as _ _ _ _
     (again_bind _ _ (byte v) _ _ _ (again_between 0 7 v (omega arith) fits.0)
     (again_bind _ _ (txn_bytes txn) _ _ _ (again_txn txn fits.1)
-    (again_bind _ _ (number_32 place) _ _ _ (again_place place fits.2)
+    (again_bind _ _ (number_32 command_number) _ _ _ (again_command_number command_number fits.2)
     (again_last _ _ _ _ _ (again_command asked fits.3) (again_done _)))))
-    (nest_4 (byte v) (txn_bytes txn) (number_32 place) (command_bytes asked))
-again_content (Outcome txn place outcome) fits = again_as _ _ _ _
+    (nest_4 (byte v) (txn_bytes txn) (number_32 command_number) (command_bytes asked))
+again_content (Outcome txn command_number outcome) fits = again_as _ _ _ _
     (again_bind _ _ (txn_bytes txn) _ _ _ (again_txn txn fits.0)
-    (again_bind _ _ (number_32 place) _ _ _ (again_place place fits.1)
+    (again_bind _ _ (number_32 command_number) _ _ _ (again_command_number command_number fits.1)
     (again_last _ _ _ _ _ (again_outcome outcome fits.2) (again_done _))))
-    (nest_3 (txn_bytes txn) (number_32 place) (outcome_bytes outcome))
-again_content (Ask v txn place table key op) fits = again_as _ _ _ _
+    (nest_3 (txn_bytes txn) (number_32 command_number) (outcome_bytes outcome))
+again_content (Ask v txn command_number table key op) fits = again_as _ _ _ _
     (again_bind _ _ (byte v) _ _ _ (again_between 0 7 v (omega arith) fits.0)
     (again_bind _ _ (txn_bytes txn) _ _ _ (again_txn txn fits.1)
-    (again_bind _ _ (number_32 place) _ _ _ (again_place place fits.2)
+    (again_bind _ _ (number_32 command_number) _ _ _ (again_command_number command_number fits.2)
     (again_last _ _ _ _ _ (again_op table key op fits.3 fits.4 fits.5) (again_done _)))))
-    (nest_4 (byte v) (txn_bytes txn) (number_32 place) (op_bytes table key op))
-again_content (Answer v txn place answer) fits = again_as _ _ _ _
+    (nest_4 (byte v) (txn_bytes txn) (number_32 command_number) (op_bytes table key op))
+again_content (Answer v txn command_number answer) fits = again_as _ _ _ _
     (again_bind _ _ (byte v) _ _ _ (again_between 0 7 v (omega arith) fits.0)
     (again_bind _ _ (txn_bytes txn) _ _ _ (again_txn txn fits.1)
-    (again_bind _ _ (number_32 place) _ _ _ (again_place place fits.2)
+    (again_bind _ _ (number_32 command_number) _ _ _ (again_command_number command_number fits.2)
     (again_last _ _ _ _ _ (again_answer answer fits.3) (again_done _)))))
-    (nest_4 (byte v) (txn_bytes txn) (number_32 place) (answer_bytes answer))
+    (nest_4 (byte v) (txn_bytes txn) (number_32 command_number) (answer_bytes answer))
 again_content (Prepare v txn) fits =
     (again_bind _ _ (byte v) _ _ _ (again_between 0 7 v (omega arith) fits.0)
     (again_last _ _ _ _ _ (again_txn txn fits.1) (again_done _)))

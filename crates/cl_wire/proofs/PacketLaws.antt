@@ -54,7 +54,7 @@ takes_kind : Takes read_kind (IsSpelled kind_bytes (λ kind. Unit {0}))
 unfolding read_kind
 takes_kind = takes_bind _ _ _ _ takes_byte (λ b text h.
     takes_checked_kind _ _ (λ kind e.
-    let place : 0 + b ≡ kind_byte kind = at_place all_kinds 0 b kind kinds_in_place e in
+    let counted : 0 + b ≡ kind_byte kind = at_place all_kinds 0 b kind kinds_in_place e in
     let same : b ≡ kind_byte kind = omega arith in
     record { text = rw (h.text, same) refl; fits = tt }))
 

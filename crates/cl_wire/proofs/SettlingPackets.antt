@@ -5,7 +5,7 @@ use Rattle.cl_wire.specs.declared.kind.Kind.TheVariants as kinds
 use Rattle.cl_wire.specs.Message.{Ask}
 use Rattle.cl_wire.specs.PacketReading.{checked_kind, read_kind, read_content, read_seq, read_header, read_message}
 use Rattle.cl_fields.proofs.Settling.{Settles, settles_bind, settles_done, settles_last, settles_passed, settles_byte}
-use Rattle.cl_fields.proofs.SettlingFields.{settles_between, settles_number, settles_positive, settles_flag, settles_place, settles_txn, settles_op, settles_command, settles_outcome, settles_answer, settles_entry, settles_item, settles_list}
+use Rattle.cl_fields.proofs.SettlingFields.{settles_between, settles_number, settles_positive, settles_flag, settles_command_number, settles_txn, settles_op, settles_command, settles_outcome, settles_answer, settles_entry, settles_item, settles_list}
 
 settles_checked_kind : (kind : Option Kind) → Settles (Unit {0}) (checked_kind kind)
 settles_checked_kind (Some kind) = record { run = λ bytes more. refl; enough = λ bytes. record { missing = 0; ends = λ short. cc } }
@@ -24,18 +24,18 @@ unfolding read_content
 settles_content kinds.Bare = settles_done _
 settles_content kinds.Command = settles_bind _ _ (settles_between _ _) (λ _.
     settles_bind _ _ settles_txn (λ _.
-    settles_bind _ _ settles_place (λ _.
+    settles_bind _ _ settles_command_number (λ _.
     settles_last _ _ settles_command)))
 settles_content kinds.Outcome = settles_bind _ _ settles_txn (λ _.
-    settles_bind _ _ settles_place (λ _.
+    settles_bind _ _ settles_command_number (λ _.
     settles_last _ _ settles_outcome))
 settles_content kinds.Ask = settles_bind _ _ (settles_between _ _) (λ v.
     settles_bind _ _ settles_txn (λ txn.
-    settles_bind _ _ settles_place (λ place.
-    settles_last _ (λ work. Ask v txn place work.0 work.1 work.2) settles_op)))
+    settles_bind _ _ settles_command_number (λ command_number.
+    settles_last _ (λ work. Ask v txn command_number work.0 work.1 work.2) settles_op)))
 settles_content kinds.Answer = settles_bind _ _ (settles_between _ _) (λ _.
     settles_bind _ _ settles_txn (λ _.
-    settles_bind _ _ settles_place (λ _.
+    settles_bind _ _ settles_command_number (λ _.
     settles_last _ _ settles_answer)))
 settles_content kinds.Prepare = settles_bind _ _ (settles_between _ _) (λ _.
     settles_last _ _ settles_txn)

@@ -10,14 +10,14 @@ use Rattle.cl_wire.specs.Range.{IsContent, IsInRange}
 length-content_bytes : (content : Content) → IsContent content → length (content_bytes content) ≤ 730
 unfolding content_bytes
 length-content_bytes Bare fits = omega arith
-length-content_bytes (Ask v txn place table key op) fits =
-    omega (arith, length-append (byte v ++ txn_bytes txn ++ number_32 place) (op_bytes table key op), length-append (byte v ++ txn_bytes txn) (number_32 place), length-txn_bytes txn, length-number_32 place, length-op_bytes table key op fits.3 fits.4 fits.5)
-length-content_bytes (Command v txn place asked) fits =
-    omega (arith, length-append (byte v ++ txn_bytes txn ++ number_32 place) (command_bytes asked), length-append (byte v ++ txn_bytes txn) (number_32 place), length-append (byte v) (txn_bytes txn), length-txn_bytes txn, length-number_32 place, length-command_bytes asked fits.3)
-length-content_bytes (Outcome txn place outcome) fits =
-    omega (arith, length-append (txn_bytes txn ++ number_32 place) (outcome_bytes outcome), length-append (txn_bytes txn) (number_32 place), length-txn_bytes txn, length-number_32 place, length-outcome_bytes outcome fits.2)
-length-content_bytes (Answer v txn place answer) fits =
-    omega (arith, length-append (byte v ++ txn_bytes txn ++ number_32 place) (answer_bytes answer), length-append (byte v ++ txn_bytes txn) (number_32 place), length-append (byte v) (txn_bytes txn), length-txn_bytes txn, length-number_32 place, length-answer_bytes answer fits.3)
+length-content_bytes (Ask v txn command_number table key op) fits =
+    omega (arith, length-append (byte v ++ txn_bytes txn ++ number_32 command_number) (op_bytes table key op), length-append (byte v ++ txn_bytes txn) (number_32 command_number), length-txn_bytes txn, length-number_32 command_number, length-op_bytes table key op fits.3 fits.4 fits.5)
+length-content_bytes (Command v txn command_number asked) fits =
+    omega (arith, length-append (byte v ++ txn_bytes txn ++ number_32 command_number) (command_bytes asked), length-append (byte v ++ txn_bytes txn) (number_32 command_number), length-append (byte v) (txn_bytes txn), length-txn_bytes txn, length-number_32 command_number, length-command_bytes asked fits.3)
+length-content_bytes (Outcome txn command_number outcome) fits =
+    omega (arith, length-append (txn_bytes txn ++ number_32 command_number) (outcome_bytes outcome), length-append (txn_bytes txn) (number_32 command_number), length-txn_bytes txn, length-number_32 command_number, length-outcome_bytes outcome fits.2)
+length-content_bytes (Answer v txn command_number answer) fits =
+    omega (arith, length-append (byte v ++ txn_bytes txn ++ number_32 command_number) (answer_bytes answer), length-append (byte v ++ txn_bytes txn) (number_32 command_number), length-append (byte v) (txn_bytes txn), length-txn_bytes txn, length-number_32 command_number, length-answer_bytes answer fits.3)
 length-content_bytes (Prepare v txn) fits =
     omega (arith, length-append (byte v) (txn_bytes txn), length-txn_bytes txn)
 length-content_bytes (Vote v txn) fits =

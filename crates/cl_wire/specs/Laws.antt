@@ -14,7 +14,7 @@ pub record Spells (bytes : List ℕ) (m : Message) : Type 0 where
 
 -- each is below 256
 abbrev pub AreBytes : List ℕ → Type 0
-AreBytes bytes = (place : ℕ) → slice_index bytes place < 2 ^ 8
+AreBytes bytes = (index : ℕ) → slice_index bytes index < 2 ^ 8
 
 -- each message in range is read back from its spelling
 abbrev pub SpelledIsRead : Type 0

@@ -17,10 +17,10 @@ use Rattle.cl_wire.specs.declared.kind.Kind.TheVariants as kinds
 -- the body: the fields of each kind, in order
 pub data Content : Type 0 where
   Bare : Content
-  Command : (v : ℕ) → (txn : TxnId) → (place : ℕ) → (asked : ClientCommand) → Content
-  Outcome : (txn : TxnId) → (place : ℕ) → (outcome : CommandOutcome) → Content
-  Ask : (v : ℕ) → (txn : TxnId) → (place : ℕ) → (table key : List ℕ) → (op : Op) → Content
-  Answer : (v : ℕ) → (txn : TxnId) → (place : ℕ) → (answer : OpAnswer) → Content
+  Command : (v : ℕ) → (txn : TxnId) → (command_number : ℕ) → (asked : ClientCommand) → Content
+  Outcome : (txn : TxnId) → (command_number : ℕ) → (outcome : CommandOutcome) → Content
+  Ask : (v : ℕ) → (txn : TxnId) → (command_number : ℕ) → (table key : List ℕ) → (op : Op) → Content
+  Answer : (v : ℕ) → (txn : TxnId) → (command_number : ℕ) → (answer : OpAnswer) → Content
   Prepare : (v : ℕ) → (txn : TxnId) → Content
   Vote : (v : ℕ) → (txn : TxnId) → Content
   Finish : (v : ℕ) → (txn : TxnId) → (commit : Bool) → Content
@@ -44,10 +44,10 @@ pub record Message : Type 0 where
 -- what a body says
 abbrev pub content_of : Body → Content
 content_of bodies.Bare = Bare
-content_of (bodies.Command v txn place command) = Command v txn place command
-content_of (bodies.Outcome txn place outcome) = Outcome txn place outcome
-content_of (bodies.Ask v txn place table key op) = Ask v txn place table key op
-content_of (bodies.Answer v txn place answer) = Answer v txn place answer
+content_of (bodies.Command v txn command_number command) = Command v txn command_number command
+content_of (bodies.Outcome txn command_number outcome) = Outcome txn command_number outcome
+content_of (bodies.Ask v txn command_number table key op) = Ask v txn command_number table key op
+content_of (bodies.Answer v txn command_number answer) = Answer v txn command_number answer
 content_of (bodies.Prepare v txn) = Prepare v txn
 content_of (bodies.Vote v txn) = Vote v txn
 content_of (bodies.Finish v txn commit) = Finish v txn commit
@@ -73,10 +73,10 @@ message_of packet = record {
 
 abbrev pub kind_of : Content → Kind
 kind_of Bare = kinds.Bare
-kind_of (Command v txn place asked) = kinds.Command
-kind_of (Outcome txn place outcome) = kinds.Outcome
-kind_of (Ask v txn place table key op) = kinds.Ask
-kind_of (Answer v txn place answer) = kinds.Answer
+kind_of (Command v txn command_number asked) = kinds.Command
+kind_of (Outcome txn command_number outcome) = kinds.Outcome
+kind_of (Ask v txn command_number table key op) = kinds.Ask
+kind_of (Answer v txn command_number answer) = kinds.Answer
 kind_of (Prepare v txn) = kinds.Prepare
 kind_of (Vote v txn) = kinds.Vote
 kind_of (Finish v txn commit) = kinds.Finish

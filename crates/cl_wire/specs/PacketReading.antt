@@ -11,7 +11,7 @@ use Rattle.cl_fields.specs.declared.undecoded.Undecoded.TheVariants as undecoded
 use Rattle.cl_wire.specs.declared.packet.Packet.{Packet}
 use Rattle.cl_wire.specs.Spelling.{version}
 use Rattle.cl_wire.specs.Message.{Content, Message, message_of, Bare, Command, Outcome, Ask, Answer, Prepare, Vote, Finish, Inquire, Decision, Log, LogAck, Repair, Records, Names, CopyAck}
-use Rattle.cl_fields.specs.Reading.{Read, Reader, done, checked, read_byte, read_between, read_number, read_positive, read_flag, read_actor, read_node, read_virtual_node, read_place, read_txn, read_op, read_command, read_outcome, read_answer, read_entry, read_item, read_list, ◌>>=◌}
+use Rattle.cl_fields.specs.Reading.{Read, Reader, done, checked, read_byte, read_between, read_number, read_positive, read_flag, read_actor, read_node, read_virtual_node, read_command_number, read_txn, read_op, read_command, read_outcome, read_answer, read_entry, read_item, read_list, ◌>>=◌}
 
 -- the kinds, each at the place that is its byte
 abbrev pub all_kinds : List Kind
@@ -33,26 +33,26 @@ read_content kinds.Bare = done Bare
 read_content kinds.Command = do
   v ← read_virtual_node
   txn ← read_txn
-  place ← read_place
+  command_number ← read_command_number
   asked ← read_command
-  done (Command v txn place asked)
+  done (Command v txn command_number asked)
 read_content kinds.Outcome = do
   txn ← read_txn
-  place ← read_place
+  command_number ← read_command_number
   outcome ← read_outcome
-  done (Outcome txn place outcome)
+  done (Outcome txn command_number outcome)
 read_content kinds.Ask = do
   v ← read_virtual_node
   txn ← read_txn
-  place ← read_place
+  command_number ← read_command_number
   work ← read_op
-  done (Ask v txn place work.0 work.1 work.2)
+  done (Ask v txn command_number work.0 work.1 work.2)
 read_content kinds.Answer = do
   v ← read_virtual_node
   txn ← read_txn
-  place ← read_place
+  command_number ← read_command_number
   answer ← read_answer
-  done (Answer v txn place answer)
+  done (Answer v txn command_number answer)
 read_content kinds.Prepare = do
   v ← read_virtual_node
   txn ← read_txn

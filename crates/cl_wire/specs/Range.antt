@@ -1,16 +1,16 @@
 -- Which messages have a spelling: each field is in its range.
 use Rattle.std.specs.Prelude.{◌≡◌, ℕ, ◌^◌, ◌<◌}
-use Rattle.cl_fields.specs.Range.{IsActor, IsNode, IsVirtualNode, IsPlace, IsIndex, IsNumber, IsTxn, IsTable, IsKey, IsOp, IsCommand, IsOutcome, IsAnswer, IsEntry, IsItem, AreFew}
+use Rattle.cl_fields.specs.Range.{IsActor, IsNode, IsVirtualNode, IsCommandNumber, IsIndex, IsNumber, IsTxn, IsTable, IsKey, IsOp, IsCommand, IsOutcome, IsAnswer, IsEntry, IsItem, AreFew}
 use Rattle.cl_wire.specs.declared.kind.Kind.{Kind}
 use Rattle.cl_wire.specs.declared.kind.Kind.TheVariants as kinds
 use Rattle.cl_wire.specs.Message.{Content, Message, kind_of, Bare, Command, Outcome, Ask, Answer, Prepare, Vote, Finish, Inquire, Decision, Log, LogAck, Repair, Records, Names, CopyAck}
 
 abbrev pub IsContent : Content → Type 0
 IsContent Bare = Unit {0}
-IsContent (Command v txn place asked) = IsVirtualNode v × IsTxn txn × IsPlace place × IsCommand asked
-IsContent (Outcome txn place outcome) = IsTxn txn × IsPlace place × IsOutcome outcome
-IsContent (Ask v txn place table key op) = IsVirtualNode v × IsTxn txn × IsPlace place × IsTable table × IsKey key × IsOp op
-IsContent (Answer v txn place answer) = IsVirtualNode v × IsTxn txn × IsPlace place × IsAnswer answer
+IsContent (Command v txn command_number asked) = IsVirtualNode v × IsTxn txn × IsCommandNumber command_number × IsCommand asked
+IsContent (Outcome txn command_number outcome) = IsTxn txn × IsCommandNumber command_number × IsOutcome outcome
+IsContent (Ask v txn command_number table key op) = IsVirtualNode v × IsTxn txn × IsCommandNumber command_number × IsTable table × IsKey key × IsOp op
+IsContent (Answer v txn command_number answer) = IsVirtualNode v × IsTxn txn × IsCommandNumber command_number × IsAnswer answer
 IsContent (Prepare v txn) = IsVirtualNode v × IsTxn txn
 IsContent (Vote v txn) = IsVirtualNode v × IsTxn txn
 IsContent (Finish v txn commit) = IsVirtualNode v × IsTxn txn

@@ -26,10 +26,10 @@ kind_byte kinds.CopyAck = 15
 -- the fields after the header
 unfoldable pub content_bytes : Content → List ℕ
 content_bytes Bare = []
-content_bytes (Command v txn place asked) = byte v ++ txn_bytes txn ++ number_32 place ++ command_bytes asked
-content_bytes (Outcome txn place outcome) = txn_bytes txn ++ number_32 place ++ outcome_bytes outcome
-content_bytes (Ask v txn place table key op) = byte v ++ txn_bytes txn ++ number_32 place ++ op_bytes table key op
-content_bytes (Answer v txn place answer) = byte v ++ txn_bytes txn ++ number_32 place ++ answer_bytes answer
+content_bytes (Command v txn command_number asked) = byte v ++ txn_bytes txn ++ number_32 command_number ++ command_bytes asked
+content_bytes (Outcome txn command_number outcome) = txn_bytes txn ++ number_32 command_number ++ outcome_bytes outcome
+content_bytes (Ask v txn command_number table key op) = byte v ++ txn_bytes txn ++ number_32 command_number ++ op_bytes table key op
+content_bytes (Answer v txn command_number answer) = byte v ++ txn_bytes txn ++ number_32 command_number ++ answer_bytes answer
 content_bytes (Prepare v txn) = byte v ++ txn_bytes txn
 content_bytes (Vote v txn) = byte v ++ txn_bytes txn
 content_bytes (Finish v txn commit) = byte v ++ txn_bytes txn ++ byte (flag_byte commit)

@@ -17,7 +17,7 @@ fn command_body(reader: &mut Reader<'_>, alloc: Global) -> Result<Body, Undecode
     Ok(Body::Command(
         reader.virtual_node()?,
         reader.txn()?,
-        reader.place()?,
+        reader.command_number()?,
         reader.command(alloc)?,
     ))
 }
@@ -25,7 +25,7 @@ fn command_body(reader: &mut Reader<'_>, alloc: Global) -> Result<Body, Undecode
 fn outcome_body(reader: &mut Reader<'_>, alloc: Global) -> Result<Body, Undecoded>
     ensures { Gives content_of result reader.new (read_content kinds.Outcome reader.old) }
 {
-    Ok(Body::Outcome(reader.txn()?, reader.place()?, reader.outcome(alloc)?))
+    Ok(Body::Outcome(reader.txn()?, reader.command_number()?, reader.outcome(alloc)?))
 }
 
 fn ask_body(reader: &mut Reader<'_>, alloc: Global) -> Result<Body, Undecoded>
@@ -33,9 +33,9 @@ fn ask_body(reader: &mut Reader<'_>, alloc: Global) -> Result<Body, Undecoded>
 {
     let v = reader.virtual_node()?;
     let txn = reader.txn()?;
-    let place = reader.place()?;
+    let command_number = reader.command_number()?;
     let (table, key, op) = reader.op(alloc)?;
-    Ok(Body::Ask(v, txn, place, table, key, op))
+    Ok(Body::Ask(v, txn, command_number, table, key, op))
 }
 
 fn answer_body(reader: &mut Reader<'_>, alloc: Global) -> Result<Body, Undecoded>
@@ -44,7 +44,7 @@ fn answer_body(reader: &mut Reader<'_>, alloc: Global) -> Result<Body, Undecoded
     Ok(Body::Answer(
         reader.virtual_node()?,
         reader.txn()?,
-        reader.place()?,
+        reader.command_number()?,
         reader.answer(alloc)?,
     ))
 }

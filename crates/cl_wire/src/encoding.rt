@@ -49,14 +49,14 @@ fn write_part(writer: &mut Writer, v: u32, txn: TxnId) -> Result<(), NoMemory>
     writer.txn(txn)
 }
 
-// Writes a virtual node, a transaction and the place of a command in it.
-fn write_place(writer: &mut Writer, v: u32, txn: TxnId, place: u32) -> Result<(), NoMemory>
+// Writes a virtual node, a transaction and the number of a command in it.
+fn write_command_number(writer: &mut Writer, v: u32, txn: TxnId, command_number: u32) -> Result<(), NoMemory>
     requires v { IsVirtualNode v }
     requires txn { IsTxn txn }
-    ensures { OnOk result (writer.new ≡ writer.old ++ byte v ++ txn_bytes txn ++ number_32 place) }
+    ensures { OnOk result (writer.new ≡ writer.old ++ byte v ++ txn_bytes txn ++ number_32 command_number) }
 {
     write_part(writer, v, txn)?;
-    writer.u32(place)
+    writer.u32(command_number)
 }
 
 // Writes a virtual node, a transaction and whether it is committed.
@@ -95,21 +95,21 @@ fn write_body(writer: &mut Writer, body: &Body) -> Result<(), NoMemory>
 {
     match body {
         Body::Bare => Ok(()),
-        Body::Command(v, txn, place, asked) => {
-            write_place(writer, *v, *txn, *place)?;
+        Body::Command(v, txn, command_number, asked) => {
+            write_command_number(writer, *v, *txn, *command_number)?;
             writer.command(asked)
         }
-        Body::Outcome(txn, place, outcome) => {
+        Body::Outcome(txn, command_number, outcome) => {
             writer.txn(*txn)?;
-            writer.u32(*place)?;
+            writer.u32(*command_number)?;
             writer.outcome(outcome)
         }
-        Body::Ask(v, txn, place, table, key, op) => {
-            write_place(writer, *v, *txn, *place)?;
+        Body::Ask(v, txn, command_number, table, key, op) => {
+            write_command_number(writer, *v, *txn, *command_number)?;
             writer.op(table, key, op)
         }
-        Body::Answer(v, txn, place, answer) => {
-            write_place(writer, *v, *txn, *place)?;
+        Body::Answer(v, txn, command_number, answer) => {
+            write_command_number(writer, *v, *txn, *command_number)?;
             writer.answer(answer)
         }
         Body::Prepare(v, txn) => write_part(writer, *v, *txn),
