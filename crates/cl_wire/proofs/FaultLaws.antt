@@ -8,13 +8,14 @@ use Rattle.cl_types.specs.Names.{is_between}
 use Rattle.cl_fields.proofs.Lengths.{between_high, between_low}
 use Rattle.std.proofs.lemmas.List.{append-nil}
 use Rattle.cl_wire.specs.declared.decoding.Header.{Header}
+use Rattle.cl_wire.specs.declared.kind.TheConstants.{KINDS}
 use Rattle.cl_wire.specs.declared.kind.Kind.{Kind}
 use Rattle.cl_fields.specs.declared.undecoded.WireFault.{WireFault}
 use Rattle.cl_fields.specs.declared.undecoded.WireFault.TheVariants as faults
 use Rattle.cl_wire.specs.Message.{Message}
 use Rattle.cl_wire.specs.Spelling.{version, spelling}
 use Rattle.cl_fields.specs.Reading.{Read, Reader, ◌>>=◌, done, read_actor, read_number, read_byte, read_between}
-use Rattle.cl_wire.specs.PacketReading.{all_kinds, read_kind, read_seq, read_header, read_content, read_message, alone, read_packet}
+use Rattle.cl_wire.specs.PacketReading.{read_kind, read_seq, read_header, read_content, read_message, alone, read_packet}
 use Rattle.cl_wire.specs.Laws.{LongerIsRest, RestIsLonger, NamesNoKind, KindIsSecondByte, FaultStays, BeginningIsShort, ShortEnds, VersionIsFirstByte}
 use Rattle.cl_fields.proofs.Readers.{same_found}
 use Rattle.cl_fields.proofs.Settling.{Settled, Settles, settles_bind, settles_last}
@@ -142,11 +143,11 @@ never_kind more (Err faults.Kind) longer settled e = settled.0
 never_kind more (Err faults.Field) longer settled e = cc
 never_kind more (Err faults.Rest) longer settled e = cc
 
-read_known : (second : ℕ) (more : List ℕ) (kind : Kind) → slice_get all_kinds second ≡ Some kind → read_message (version ∷ second ∷ more) ≡ after_kind kind more
+read_known : (second : ℕ) (more : List ℕ) (kind : Kind) → slice_get KINDS second ≡ Some kind → read_message (version ∷ second ∷ more) ≡ after_kind kind more
 unfolding read_message read_header read_between read_kind read_byte after_kind header_after
 read_known second more kind e = rw e refl
 
-read_unknown : (second : ℕ) (more : List ℕ) → slice_get all_kinds second ≡ None → read_message (version ∷ second ∷ more) ≡ Err faults.Kind
+read_unknown : (second : ℕ) (more : List ℕ) → slice_get KINDS second ≡ None → read_message (version ∷ second ∷ more) ≡ Err faults.Kind
 unfolding read_message read_header read_between read_kind read_byte
 read_unknown second more e = rw e refl
 
@@ -165,7 +166,7 @@ read_no_bytes = refl
 -- the second byte, behind the version's
 second_is : (second : ℕ) (more : List ℕ) → alone (read_message (version ∷ second ∷ more)) ≡ Err faults.Kind → NamesNoKind (version ∷ second ∷ more)
 second_is second more e =
-    elim ((slice_get_cases all_kinds second).1) [
+    elim ((slice_get_cases KINDS second).1) [
       | inl there ↦
           let known = read_known second more there.0 there.2 in
           absurd (never_kind [] (after_kind there.0 more) (after_kind there.0 (more ++ [])) ((settles_after_kind there.0).run more []) (rw (← known) e))
@@ -193,7 +194,7 @@ kind_is (first ∷ bytes) e =
     ]
 
 kind_there : (bytes : List ℕ) → NamesNoKind bytes → alone (read_message bytes) ≡ Err faults.Kind
-kind_there bytes names = rw (names.text, read_unknown names.second names.more (slice_get_past all_kinds names.second names.above)) refl
+kind_there bytes names = rw (names.text, read_unknown names.second names.more (slice_get_past KINDS names.second names.above)) refl
 
 pub kind_is_second_byte : KindIsSecondByte
 unfolding read_packet

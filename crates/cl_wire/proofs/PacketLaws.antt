@@ -4,6 +4,7 @@ use Rattle.std.specs.Prelude.{slice_get, IfOk}
 use Rattle.std.proofs.lemmas.Bool.{eqb-true, eq-eqb, leb-true, le-leb}
 use Rattle.std.proofs.lemmas.List.{append-nil}
 use Rattle.cl_wire.specs.declared.decoding.Header.{Header}
+use Rattle.cl_wire.specs.declared.kind.TheConstants.{KINDS}
 use Rattle.cl_wire.specs.declared.kind.Kind.{Kind}
 use Rattle.cl_wire.specs.declared.kind.Kind.TheVariants as kinds
 use Rattle.cl_fields.specs.declared.undecoded.Undecoded.{Undecoded}
@@ -14,7 +15,7 @@ use Rattle.cl_wire.specs.Spelling.{kind_byte, version, header_bytes, content_byt
 use Rattle.cl_fields.specs.Range.{IsActor}
 use Rattle.cl_wire.specs.Range.{IsSeq, IsInRange}
 use Rattle.cl_fields.specs.Reading.{Read}
-use Rattle.cl_wire.specs.PacketReading.{all_kinds, checked_kind, is_seq, read_kind, read_seq, read_version, read_header, read_message, alone, read_packet, Decodes}
+use Rattle.cl_wire.specs.PacketReading.{checked_kind, is_seq, read_kind, read_seq, read_version, read_header, read_message, alone, read_packet, Decodes}
 use Rattle.cl_wire.specs.Laws.{AreBytes, Spells, SpelledIsRead, ReadIsSpelled, SpellsAtMostOne, NoneBeginsAnother}
 use Rattle.cl_fields.proofs.Readers.{same_found, Takes, IsSpelled, Again, takes_bind, takes_done, takes_passed, takes_last, takes_as, again_bind, again_done, again_passed, again_as, again_last}
 use Rattle.cl_fields.proofs.Nested.{nest_7}
@@ -23,25 +24,25 @@ use Rattle.cl_wire.proofs.ContentLaws.{takes_content, again_content}
 
 -- ---- kinds
 
--- each kind's byte is its place in the list, counted from base
-AreInPlace : List Kind → ℕ → Type 0
-AreInPlace [] base = Unit {0}
-AreInPlace (kind ∷ kinds) base = (kind_byte kind ≡ base) × AreInPlace kinds (suc base)
+-- each kind's byte is its index in the list, counted from base
+AreInOrder : List Kind → ℕ → Type 0
+AreInOrder [] base = Unit {0}
+AreInOrder (kind ∷ kinds) base = (kind_byte kind ≡ base) × AreInOrder kinds (suc base)
 
-at_place : (kinds : List Kind) (base b : ℕ) (kind : Kind) → AreInPlace kinds base → slice_get kinds b ≡ Some kind → base + b ≡ kind_byte kind
-unfolding AreInPlace
-at_place [] base b kind placed e = absurd cc
-at_place (first ∷ others) base zero kind placed e =
+at_index : (kinds : List Kind) (base b : ℕ) (kind : Kind) → AreInOrder kinds base → slice_get kinds b ≡ Some kind → base + b ≡ kind_byte kind
+unfolding AreInOrder
+at_index [] base b kind ordered e = absurd cc
+at_index (first ∷ others) base zero kind ordered e =
     let same : first ≡ kind = cc in
-    let here : kind_byte first ≡ base = placed.0 in
+    let here : kind_byte first ≡ base = ordered.0 in
     rw (← same, here) (omega arith)
-at_place (first ∷ others) base (suc b) kind placed e =
-    let there = at_place others (suc base) b kind placed.1 e in
+at_index (first ∷ others) base (suc b) kind ordered e =
+    let there = at_index others (suc base) b kind ordered.1 e in
     omega arith
 
-kinds_in_place : AreInPlace all_kinds 0
-unfolding AreInPlace
-kinds_in_place = (refl, (refl, (refl, (refl, (refl, (refl, (refl, (refl, (refl, (refl, (refl, (refl, (refl, (refl, (refl, (refl, tt))))))))))))))))
+kinds_in_order : AreInOrder KINDS 0
+unfolding AreInOrder
+kinds_in_order = (refl, (refl, (refl, (refl, (refl, (refl, (refl, (refl, (refl, (refl, (refl, (refl, (refl, (refl, (refl, (refl, tt))))))))))))))))
 
 abbrev kind_bytes : Kind → List ℕ
 kind_bytes kind = byte (kind_byte kind)
@@ -54,7 +55,7 @@ takes_kind : Takes read_kind (IsSpelled kind_bytes (λ kind. Unit {0}))
 unfolding read_kind
 takes_kind = takes_bind _ _ _ _ takes_byte (λ b text h.
     takes_checked_kind _ _ (λ kind e.
-    let counted : 0 + b ≡ kind_byte kind = at_place all_kinds 0 b kind kinds_in_place e in
+    let counted : 0 + b ≡ kind_byte kind = at_index KINDS 0 b kind kinds_in_order e in
     let same : b ≡ kind_byte kind = omega arith in
     record { text = rw (h.text, same) refl; fits = tt }))
 

@@ -2,6 +2,7 @@
 use Rattle.std.specs.Prelude.{◌≡◌, ◌≢◌, ℕ, ◌^◌, ◌<◌, ◌≤◌, ◌↔◌, List, [], ◌∷◌, ◌++◌, length, slice_index, replicate, Ok, Err}
 use Rattle.cl_fields.specs.declared.undecoded.WireFault.{WireFault}
 use Rattle.cl_fields.specs.declared.undecoded.WireFault.TheVariants as faults
+use Rattle.cl_wire.specs.declared.kind.TheConstants.{KINDS}
 use Rattle.cl_wire.specs.Message.{Message}
 use Rattle.cl_wire.specs.Spelling.{version, spelling}
 use Rattle.cl_wire.specs.Range.{IsInRange}
@@ -67,7 +68,7 @@ pub record NamesNoKind (bytes : List ℕ) : Type 0 where
   pub second : ℕ
   pub more : List ℕ
   pub text : bytes ≡ version ∷ second ∷ more
-  pub above : 15 < second
+  pub above : length KINDS ≤ second
 
 -- Kind comes exactly there
 abbrev pub KindIsSecondByte : Type 0

@@ -2,6 +2,7 @@
 use Rattle.std.specs.Prelude.{◌≡◌, ℕ, Bool, nat_le, slice_get, ◌==◌, List, [], ◌∷◌, Option, Some, None, Result, Ok, Err}
 use Rattle.std.specs.Int.{w32, w64}
 use Rattle.cl_wire.specs.declared.decoding.Header.{Header}
+use Rattle.cl_wire.specs.declared.kind.TheConstants.{KINDS}
 use Rattle.cl_wire.specs.declared.kind.Kind.{Kind}
 use Rattle.cl_wire.specs.declared.kind.Kind.TheVariants as kinds
 use Rattle.cl_fields.specs.declared.undecoded.WireFault.{WireFault}
@@ -13,11 +14,7 @@ use Rattle.cl_wire.specs.Spelling.{version}
 use Rattle.cl_wire.specs.Message.{Content, Message, message_of, Bare, Command, Outcome, Ask, Answer, Prepare, Vote, Finish, Inquire, Decision, Log, LogAck, Repair, Records, Names, CopyAck}
 use Rattle.cl_fields.specs.Reading.{Read, Reader, done, checked, read_byte, read_between, read_number, read_positive, read_flag, read_actor, read_node, read_virtual_node, read_command_number, read_txn, read_op, read_command, read_outcome, read_answer, read_entry, read_item, read_list, ◌>>=◌}
 
--- the kinds, each at the place that is its byte
-abbrev pub all_kinds : List Kind
-all_kinds = kinds.Bare ∷ kinds.Command ∷ kinds.Outcome ∷ kinds.Ask ∷ kinds.Answer ∷ kinds.Prepare ∷ kinds.Vote ∷ kinds.Finish ∷ kinds.Inquire ∷ kinds.Decision ∷ kinds.Log ∷ kinds.LogAck ∷ kinds.Repair ∷ kinds.Records ∷ kinds.Names ∷ kinds.CopyAck ∷ []
-
--- the kind with that byte
+-- a kind, unless there is none with the byte that was read
 abbrev pub checked_kind : Option Kind → Reader Kind
 checked_kind (Some kind) bytes = Ok (kind, bytes)
 checked_kind None bytes = Err faults.Kind
@@ -25,7 +22,7 @@ checked_kind None bytes = Err faults.Kind
 unfoldable pub read_kind : Reader Kind
 read_kind = do
   b ← read_byte
-  checked_kind (slice_get all_kinds b)
+  checked_kind (slice_get KINDS b)
 
 -- the fields after the header, by the kind
 unfoldable pub read_content : Kind → Reader Content
@@ -146,7 +143,7 @@ alone (Err fault) = Err fault
 unfoldable pub read_packet : List ℕ → Result Message WireFault
 read_packet bytes = alone (read_message bytes)
 
--- a packet of the code is this reading, or memory ran out
+-- a packet of the code is this reading, or an allocation failed
 abbrev pub Decodes : Result Packet Undecoded → Result Message WireFault → Type 0
 Decodes (Ok packet) read = read ≡ Ok (message_of packet)
 Decodes (Err (undecoded.Fault fault)) read = read ≡ Err fault

@@ -129,7 +129,7 @@ fn copy_ack_body(reader: &mut Reader<'_>) -> Result<Body, Undecoded>
     Ok(Body::CopyAck(reader.virtual_node()?, reader.index()?))
 }
 
-/// The body of a packet of this kind.
+/// Reads the body of a packet of this kind.
 pub(crate) fn body(reader: &mut Reader<'_>, alloc: Global, kind: Kind) -> Result<Body, Undecoded>
     ensures { Gives content_of result reader.new (read_content kind reader.old) }
 {

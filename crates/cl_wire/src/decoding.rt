@@ -44,7 +44,7 @@ fn next_kind(reader: &mut Reader<'_>) -> Result<Kind, Undecoded>
     }
 }
 
-// The number of a message of this kind.
+// Reads the number of a message of this kind.
 #[tactic(auto, unfolding(crate::specs::PacketReading::read_seq))]
 fn next_seq(reader: &mut Reader<'_>, kind: Kind) -> Result<u64, Undecoded>
     ensures { ReadsField result reader.new (read_seq kind reader.old) }
@@ -89,7 +89,7 @@ fn next_packet(reader: &mut Reader<'_>, alloc: Global) -> Result<Packet, Undecod
     })
 }
 
-// The packet that the bytes are, all of the bytes.
+// Reads the packet that all of the bytes are.
 #[tactic(auto, unfolding(crate::specs::PacketReading::read_packet))]
 fn read_whole(alloc: Global, bytes: &[u8]) -> Result<Packet, Undecoded>
     ensures { Decodes result (read_packet bytes.now) }
@@ -103,12 +103,13 @@ fn read_whole(alloc: Global, bytes: &[u8]) -> Result<Packet, Undecoded>
     }
 }
 
-/// The packet that the bytes are the spelling of, or the first field from the left that cannot be
-/// read. It takes memory for values and lists alone, and time in proportion to the bytes.
+/// Returns the packet that the bytes spell, or the first field from the left that cannot be read.
+///
+/// It allocates for values and lists alone and runs in linear time; no contract says so.
 pub fn decode(alloc: Global, bytes: &[u8]) -> Result<Packet, Undecoded>
     // What is read is spelled so.
     ensures found { IfOk result (λ packet. Spells bytes.now (message_of packet)) }
-    // What is spelled so is read, unless memory runs out.
+    // What is spelled so is read, unless an allocation fails.
     ensures only { (m : Message) → Spells bytes.now m → Decodes result (Ok m) }
     // Which fault it is.
     ensures exact { Decodes result (read_packet bytes.now) }

@@ -155,8 +155,9 @@ fn write_header(writer: &mut Writer, packet: &Packet) -> Result<(), NoMemory>
     writer.u64(packet.ack)
 }
 
-/// The one spelling of a packet whose fields are in their ranges. It takes memory once, and time in
-/// proportion to the packet.
+/// Returns the one spelling of a packet whose fields are in their ranges.
+///
+/// It allocates once and runs in linear time; no contract says so.
 #[tactic(auto, unfolding(crate::specs::Spelling::spelling))]
 pub fn encode(alloc: Global, packet: &Packet) -> Result<Vec<u8>, NoMemory>
     requires { IsInRange (message_of packet.now) }

@@ -21,21 +21,21 @@ pub struct Packet {
     pub body: Body,
 }
 
-/// What a packet says. The first field is the virtual node, 0 to 7, unless said.
+/// What a packet says. The first field is the virtual node, 0 to 7, unless said otherwise.
 ///
-/// The place of a command is its number in its transaction, 0 to 65. Indexes count the pieces of a
-/// copy, from 1.
+/// A command's number counts the commands of its transaction: BEGIN is 0, and the last is at most 65. An index counts the
+/// pieces of a copy, from 1.
 #[derive(Debug, Drop)]
 pub enum Body {
     /// An acknowledgement and nothing else.
     Bare,
-    /// A client's command, at its place.
+    /// A client's command: its transaction, its number there, and the command.
     Command(u32, TxnId, u32, Command),
-    /// The outcome of the command at that place: transaction, place, outcome.
+    /// The outcome of a command: its transaction, its number there, and the outcome.
     Outcome(TxnId, u32, Outcome),
-    /// An operation for a participant, at its place.
+    /// An operation for a participant: its transaction, its command's number, and the operation.
     Ask(u32, TxnId, u32, TableName, Key, Op),
-    /// A participant's answer to the operation at that place.
+    /// A participant's answer to an operation: its transaction, its command's number, and the answer.
     Answer(u32, TxnId, u32, Answer),
     /// A participant is to prepare.
     Prepare(u32, TxnId),
@@ -49,15 +49,15 @@ pub enum Body {
     Decision(u32, TxnId, bool),
     /// A record of the primary's log, with its number, at least 1.
     Log(u32, u64, LogRec),
-    /// All records up to that number, at least 1, are taken.
+    /// All records up to that number, at least 1, have been taken.
     LogAck(u32, u64),
     /// A spare node, 0 to 15, is to become the standby.
     Repair(u32, u32),
-    /// A piece of a copy: its index and at most four records.
+    /// A piece of a copy: its index, and at most four records.
     Records(u32, u32, ItemList),
-    /// A piece of a copy: its index, whether it is the last, the log number from which the copy is
-    /// followed, and at most four names of committed transactions.
+    /// A piece of a copy: its index, whether it is the last, the log number from which the log follows the copy, and at
+    /// most four names of committed transactions.
     Names(u32, u32, bool, u64, TxnList),
-    /// The piece of that index is taken.
+    /// The piece with that index has been taken.
     CopyAck(u32, u32),
 }
