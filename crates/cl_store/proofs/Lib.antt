@@ -1,6 +1,7 @@
 pub mod Determined
 pub mod Found
 pub mod InOrder
+mod Live
 mod Parts
 pub mod Places
 mod Searches

@@ -1,15 +1,18 @@
 -- Reads and writes of entries, by where their places are.
-use Rattle.std.proofs.Common.{◌≡◌, ℕ, suc, ◌+◌, ◌-◌, ◌<◌, min, cond, List, [], ◌∷◌, ◌++◌, length, take, drop, get_or, set, Option, Less, sym, ap, ◌∙◌, subst, arith}
+use Rattle.std.proofs.Common.{◌≡◌, ℕ, suc, ◌+◌, ◌-◌, ◌<◌, ◌≤◌, min, cond, List, [], ◌∷◌, ◌++◌, length, take, drop, get_or, set, Option, Less, sym, ap, ◌∙◌, subst, arith}
+use Rattle.std.specs.Prelude.{is_some}
 use Rattle.std.specs.List.{All, insert}
 use Rattle.std.specs.List.Sorted.{IsStrictlySortedBy}
 use Rattle.std.proofs.lemmas.List.{take-append-drop, take_rest, take_min, set_split, map-set, map-append, take-map, drop-map, length-map, get_or-map}
 use Rattle.cl_types.specs.Places.{Place, same_place}
+use Rattle.cl_store.specs.declared.item.Item.{Item}
 use Rattle.cl_store.specs.declared.hashed_item.HashedItem.{HashedItem}
 use Rattle.cl_store.specs.ScanOrder.{scan_order}
-use Rattle.cl_store.specs.Items.{place_of, stored_at, IsInScanOrder}
+use Rattle.cl_store.specs.Items.{place_of, stored_at, live, IsInScanOrder}
 use Rattle.cl_store.specs.Entries.{items_of}
 use Rattle.cl_store.specs.Search.{IsFoundAt, BelongsAt}
 use Rattle.cl_store.proofs.Found.{has_place, stored_at-found}
+use Rattle.cl_store.proofs.Live.{one_if, live-split}
 use Rattle.cl_store.proofs.Parts.{split_at}
 use Rattle.cl_store.proofs.Splits.{said, IsInScanOrder-replaced, IsInScanOrder-between, stored_at-replaced, stored_at-between}
 
@@ -32,6 +35,12 @@ module _ (entries : List HashedItem) (place : Place) (at : ℕ) (sorted : IsInSc
   split : items_of entries ≡ take at (items_of entries) ++ old.item ∷ drop (at + 1) (items_of entries)
   split = split_at (items_of entries) at old.item found.in_range item_read
 
+  -- its value is counted
+  pub one-le-live : one_if (is_some old.item.value) ≤ live (items_of entries)
+  one-le-live =
+      let whole = ap live split ∙ live-split (take at (items_of entries)) old.item (drop (at + 1) (items_of entries)) in
+      omega (arith, whole)
+
   module _ (new : HashedItem) (number : ℕ) (value : Option (List ℕ)) (overwritten : new.item ≡ record old.item { number = number; value = value }) where
     same : place_of new.item ≡ place_of old.item
     same = ap place_of overwritten
@@ -43,6 +52,13 @@ module _ (entries : List HashedItem) (place : Place) (at : ℕ) (sorted : IsInSc
     IsInScanOrder-overwritten =
         subst IsInScanOrder (sym written)
         (IsInScanOrder-replaced (take at (items_of entries)) old.item new.item (drop (at + 1) (items_of entries)) same (subst IsInScanOrder split sorted))
+
+    pub live-overwritten : live (items_of (set entries at new)) + one_if (is_some old.item.value) ≡ live (items_of entries) + one_if (is_some value)
+    live-overwritten =
+        let after = ap live written ∙ live-split (take at (items_of entries)) new.item (drop (at + 1) (items_of entries)) in
+        let before = ap live split ∙ live-split (take at (items_of entries)) old.item (drop (at + 1) (items_of entries)) in
+        let now = ap (λ (item : Item). one_if (is_some item.value)) overwritten in
+        omega (arith, after, before, now)
 
     pub stored_at-overwritten : (other : Place) → stored_at (items_of (set entries at new)) other ≡ cond (same_place place other) (number, value) (stored_at (items_of entries) other)
     stored_at-overwritten other =
@@ -73,6 +89,12 @@ module _ (entries : List HashedItem) (place : Place) (at : ℕ) (belongs : Belon
   IsInScanOrder-inserted sorted =
       subst IsInScanOrder (sym inserted)
       (IsInScanOrder-between (take at (items_of entries)) new.item (drop at (items_of entries)) (subst IsInScanOrder (sym whole) sorted) before after)
+
+  pub live-inserted : live (items_of (insert entries at new)) ≡ live (items_of entries) + one_if (is_some new.item.value)
+  live-inserted =
+      ap live inserted
+      ∙ live-split (take at (items_of entries)) new.item (drop at (items_of entries))
+      ∙ ap (λ items. live items + one_if (is_some new.item.value)) whole
 
   pub stored_at-inserted : (other : Place) → stored_at (items_of (insert entries at new)) other ≡ cond (same_place place other) (said new.item) (stored_at (items_of entries) other)
   stored_at-inserted other =

@@ -1,13 +1,13 @@
 //! Where a place is among records in scan order, and what else is read off them.
-ghost use Rattle.std.specs.Prelude.{◌≡◌, ◌≤◌, length, [], drop, IsOk, IfOk, IfErr};
+ghost use Rattle.std.specs.Prelude.{◌≡◌, ◌≤◌, length, [], drop, is_some, IsOk, IfOk, IfErr, if◌then◌else◌};
 ghost use Rattle.cl_types.specs.GrowingList.{items};
 ghost use Rattle.cl_store.specs.Entries.{items_of};
-ghost use Rattle.cl_store.specs.Items.{IsInScanOrder, records_after, place_read, live};
+ghost use Rattle.cl_store.specs.Items.{IsInScanOrder, records_after, place_read};
 ghost use Rattle.cl_store.specs.Search.{IsFoundAt, BelongsAt};
 
 use crate::ItemList;
 use crate::hashed_item::HashedItem;
-use cl_types::{Key, NoMemory, TableName, hash};
+use cl_types::{Key, NoMemory, TableName, Value, hash};
 use std::alloc::Global;
 
 // Where the record of a place is, or where it would be. It computes one hash, and makes comparisons as the
@@ -31,19 +31,16 @@ pub(crate) fn index_after(entries: &[HashedItem], after: Option<(&TableName, &Ke
         return 0;
     };
     match find(entries, table, key) {
-        Ok(at) => at + 1,
-        Err(at) => at,
+        Ok(index) => index + 1,
+        Err(index) => index,
     }
 }
 
-// How many records have a value.
-pub(crate) fn live_count(entries: &[HashedItem]) -> u64
-    ensures { result ≡ live (items_of entries.now) }
+// How many live records a value makes: one, or none where it is absent.
+pub(crate) fn one_if_live(value: &Option<Value>) -> u64
+    ensures { result ≡ (if is_some value.now then 1 else 0) }
 {
-    entries
-        .iter()
-        .filter(|entry| entry.item.value.is_some())
-        .count() as u64
+    u64::from(value.is_some())
 }
 
 // The records alone, copied.

@@ -1,6 +1,7 @@
 //! The store of a replica.
 ghost use Rattle.cl_store.specs.Entries.{items_of};
-ghost use Rattle.cl_store.specs.Items.{IsInScanOrder};
+ghost use Rattle.cl_store.specs.Items.{IsInScanOrder, live};
+ghost use Rattle.std.specs.Prelude.{◌≡◌};
 ghost use Rattle.std.proofs.Props.{props};
 
 use crate::hashed_item::HashedItem;
@@ -15,8 +16,10 @@ use std::alloc::Global;
 #[derive(Debug, Drop)]
 pub struct Store {
     entries: Vec<HashedItem>,
+    live_count: u64,
     alloc: Global,
     ghost in_order: { IsInScanOrder (items_of entries.items) } by { Prim.hlevel props },
+    ghost counted: { live_count ≡ live (items_of entries.items) },
 }
 
 #[tactic(auto, unfolding(crate::specs::Store::records, crate::specs::Store::room))]
@@ -35,6 +38,7 @@ impl Store {
     {
         Store {
             entries: Vec::new(alloc),
+            live_count: 0,
             alloc,
         }
     }
@@ -48,22 +52,22 @@ impl Store {
         ensures value { option_copied result.1 ≡ (stored self.now (table.now, key.now)).1 }
     {
         match entries::find(&self.entries, table, key) {
-            Ok(at) => {
-                let item = &self.entries[at].item;
+            Ok(index) => {
+                let item = &self.entries[index].item;
                 (item.number, item.value.as_ref())
             }
             Err(_) => (0, None),
         }
     }
 
-    /// Makes room for `n` more records. The records stay, whatever the answer.
-    pub fn reserve(&mut self, n: usize) -> Result<(), NoMemory>
+    /// Makes room for `count` more records. The records stay, whatever the answer.
+    pub fn reserve(&mut self, count: usize) -> Result<(), NoMemory>
         ensures records { records self.new ≡ records self.old }
-        ensures ok { OnOk result (n ≤ room self.new) }
-        ensures roomy { n ≤ room self.old → IsOk result }
+        ensures ok { OnOk result (count ≤ room self.new) }
+        ensures roomy { count ≤ room self.old → IsOk result }
         ensures keeps_room { room self.old ≤ room self.new }
     {
-        self.entries.reserve(n)?;
+        self.entries.reserve(count)?;
         Ok(())
     }
 
@@ -79,28 +83,34 @@ impl Store {
         ensures room { room self.old ≤ room self.new + 1 }
         ensures keeps_room { 0 < (stored self.old (table.now, key.now)).0 → room self.old ≤ room self.new }
     {
+        let added = entries::one_if_live(&value);
         match entries::find(&self.entries, table, key) {
-            Ok(at) => self.entries[at].overwrite(number, value),
-            Err(at) => {
+            Ok(index) => {
+                let entry = &mut self.entries[index];
+                let removed = entries::one_if_live(&entry.item.value);
+                entry.overwrite(number, value);
+                self.live_count = self.live_count - removed + added;
+            }
+            Err(index) => {
                 let item = Item {
                     table: table.copy(),
                     key: key.copy(),
                     number,
                     value,
                 };
-                match self.entries.insert(at, HashedItem::new(item)) {
-                    Ok(()) => {}
+                match self.entries.insert(index, HashedItem::new(item)) {
+                    Ok(()) => self.live_count += added,
                     Err(_) => unreachable!(),
                 }
             }
         }
     }
 
-    /// How many records have a value. It walks over all records.
+    /// How many records have a value. It takes constant time.
     pub fn live_count(&self) -> u64
         ensures { result ≡ live (records self.now) }
     {
-        entries::live_count(&self.entries)
+        self.live_count
     }
 
     /// The first `max` records after a place, or of all where there is none, in scan order: dead ones too.

@@ -11,8 +11,8 @@ pub returns-in-Ok : goal.returns-in-Ok
 unfolding records
 returns-in-Ok c =
     let place : Place = (c.args.table.now, c.args.key.now) in
-    let found = subst (λ entries. IsFoundAt (items_of entries) place c.in-Ok.at) c.deref.ensures.value c.in-Ok.ensures.found in
-    let stands = sym (stored_at-entry c.args.self.now.entries.items place c.in-Ok.at c.args.self.now.in_order found c.index.result.now c.index.ensures) in
+    let found = subst (λ entries. IsFoundAt (items_of entries) place c.in-Ok.index) c.deref.ensures.value c.in-Ok.ensures.found in
+    let stands = sym (stored_at-entry c.args.self.now.entries.items place c.in-Ok.index c.args.self.now.in_order found c.index.result.now c.index.ensures) in
     record { number = ap (λ (s : Stored). s.0) stands; value = c.as_ref.ensures.value ∙ ap (λ (s : Stored). s.1) stands }
 
 pub returns-in-Err : goal.returns-in-Err
