@@ -6,8 +6,6 @@ mod hashed_item;
 mod item;
 mod laws;
 mod store;
-#[cfg(test)]
-mod tests;
 
 pub use item::{Item, ItemList};
 pub use laws::{records_are_in_order, records_follow_places};
