@@ -16,25 +16,29 @@ can_be_undone-opens (End txn commit) h = h
 can_be_undone-opens (Decide txn) h = h
 can_be_undone-opens content h = refl
 
--- what a mark does not do
-pub mark_writes : (content : LogRec) (place : Place) → is_mark content ≡ true → writes place content ≡ false
-mark_writes (Set txn table key before old new) place h = absurd (false≢true h)
-mark_writes (Add txn table key before amount) place h = absurd (false≢true h)
-mark_writes (Comp txn table key before undone form) place h = absurd (false≢true h)
-mark_writes content place h = refl
+-- a record that writes nothing and undoes nothing
+pub record IsIdle (content : LogRec) : Type 0 where
+  pub writes_not : (place : Place) → writes place content ≡ false
+  pub undone_not : can_be_undone content ≡ false
+  pub undoes_not : (number : ℕ) → undoes number content ≡ false
 
-pub mark_undoable : (content : LogRec) → is_mark content ≡ true → can_be_undone content ≡ false
-mark_undoable (Set txn table key before old new) h = absurd (false≢true h)
-mark_undoable (Add txn table key before amount) h = absurd (false≢true h)
-mark_undoable content h = refl
+-- a mark is idle and ends nothing
+pub mark_idle : (content : LogRec) → is_mark content ≡ true → IsIdle content
+mark_idle (Set txn table key before old new) h = absurd (false≢true h)
+mark_idle (Add txn table key before amount) h = absurd (false≢true h)
+mark_idle (Comp txn table key before undone form) h = absurd (false≢true h)
+mark_idle content h = record { writes_not = λ place. refl; undone_not = refl; undoes_not = λ number. refl }
 
 pub mark_end : (content : LogRec) → is_mark content ≡ true → is_end content ≡ false
 mark_end (End txn commit) h = absurd (false≢true h)
 mark_end content h = refl
 
-pub mark_undoes : (content : LogRec) (number : ℕ) → is_mark content ≡ true → undoes number content ≡ false
-mark_undoes (Comp txn table key before undone form) number h = absurd (false≢true h)
-mark_undoes content number h = refl
+-- an End is idle
+pub end_idle : (content : LogRec) → is_end content ≡ true → IsIdle content
+end_idle (Set txn table key before old new) h = absurd (false≢true h)
+end_idle (Add txn table key before amount) h = absurd (false≢true h)
+end_idle (Comp txn table key before undone form) h = absurd (false≢true h)
+end_idle content h = record { writes_not = λ place. refl; undone_not = refl; undoes_not = λ number. refl }
 
 -- what can be undone ends nothing and undoes nothing
 pub write_end : (content : LogRec) → can_be_undone content ≡ true → is_end content ≡ false
@@ -44,22 +48,6 @@ write_end content h = refl
 pub write_undoes : (content : LogRec) (number : ℕ) → can_be_undone content ≡ true → undoes number content ≡ false
 write_undoes (Comp txn table key before undone form) number h = absurd (false≢true h)
 write_undoes content number h = refl
-
--- an End writes nothing and undoes nothing
-pub end_writes : (content : LogRec) (place : Place) → is_end content ≡ true → writes place content ≡ false
-end_writes (Set txn table key before old new) place h = absurd (false≢true h)
-end_writes (Add txn table key before amount) place h = absurd (false≢true h)
-end_writes (Comp txn table key before undone form) place h = absurd (false≢true h)
-end_writes content place h = refl
-
-pub end_undoable : (content : LogRec) → is_end content ≡ true → can_be_undone content ≡ false
-end_undoable (Set txn table key before old new) h = absurd (false≢true h)
-end_undoable (Add txn table key before amount) h = absurd (false≢true h)
-end_undoable content h = refl
-
-pub end_undoes : (content : LogRec) (number : ℕ) → is_end content ≡ true → undoes number content ≡ false
-end_undoes (Comp txn table key before undone form) number h = absurd (false≢true h)
-end_undoes content number h = refl
 
 -- undoing keeps the place
 pub writes-undo_of : (content : LogRec) (number now : ℕ) (place : Place) → writes place (undo_of content number now) ≡ writes place content

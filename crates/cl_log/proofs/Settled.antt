@@ -20,7 +20,7 @@ use Rattle.cl_log.specs.Rest.{is_undone, is_left, is_left_of, rest_to_undo, undo
 use Rattle.cl_log.specs.Settled.{value_undone, undone_at, is_unsettled, unsettled, settled, IsReversible}
 use Rattle.cl_log.specs.Store.{value_after, store_of_log}
 use Rattle.cl_log.proofs.Entries.{IsNumberedFrom-append, number_at}
-use Rattle.cl_log.proofs.KindFacts.{can_be_undone-opens, mark_writes, mark_undoable, mark_end, mark_undoes, write_end, write_undoes, end_writes, end_undoable, end_undoes, writes-undo_of, value_after-undo_of, opens-undo_of, is_end-undo_of}
+use Rattle.cl_log.proofs.KindFacts.{can_be_undone-opens, mark_idle, mark_end, write_end, write_undoes, end_idle, writes-undo_of, value_after-undo_of, opens-undo_of, is_end-undo_of}
 use Rattle.cl_log.proofs.Locks.{locks_of_log-write, one_writer}
 use Rattle.cl_log.proofs.Open.{is_open_push-other, is_open_push-idle, is_open_push-begun, is_open_push-end, is_open_push-opens, or_false}
 use Rattle.cl_log.proofs.Rest.{IsFirstOfRest, is_undone_push, first_of_rest_is, names_first, can_be_undone-undo_of}
@@ -158,10 +158,10 @@ value_of_other entries entry place h = ap (λ (q : Stored). q.1) (store_of_log_o
 pub settled_after_mark : (entries : List LogEntry) (entry : LogEntry) (history : List TxnId) (place : Place) → is_mark entry.content ≡ true →
     settled (entries ++ entry ∷ []) history place ≡ settled entries history place
 settled_after_mark entries entry history place h =
-    settled_push-fixed entries entry history place (mark_undoable entry.content h)
-    ∙ ap (λ v. undone (is_unsettled (entries ++ entry ∷ []) history) place v entries) (value_of_other entries entry place (mark_writes entry.content place h))
+    settled_push-fixed entries entry history place (mark_idle entry.content h).undone_not
+    ∙ ap (λ v. undone (is_unsettled (entries ++ entry ∷ []) history) place v entries) (value_of_other entries entry place ((mark_idle entry.content h).writes_not place))
     ∙ undone-agree _ (is_unsettled entries history) place _ entries
-    (λ before x after e w. unsettled-kept entries entry history (mark_end entry.content h) (λ n. mark_undoes entry.content n h) before x after e)
+    (λ before x after e w. unsettled-kept entries entry history (mark_end entry.content h) (mark_idle entry.content h).undoes_not before x after e)
     ∙ sym (settled-undone entries history place)
 
 -- a write of a running transaction that is not in the history leaves the settled map
@@ -198,8 +198,8 @@ pub settled_after_end : (entries : List LogEntry) (entry : LogEntry) (history : 
     (is_among (txn_of entry.content) history ≡ true) ⊎ (rest_to_undo entries (txn_of entry.content) ≡ []) →
     settled (entries ++ entry ∷ []) history place ≡ settled entries history place
 settled_after_end entries entry history place h settles =
-    settled_push-fixed entries entry history place (end_undoable entry.content h)
-    ∙ ap (λ v. undone (is_unsettled (entries ++ entry ∷ []) history) place v entries) (value_of_other entries entry place (end_writes entry.content place h))
+    settled_push-fixed entries entry history place (end_idle entry.content h).undone_not
+    ∙ ap (λ v. undone (is_unsettled (entries ++ entry ∷ []) history) place v entries) (value_of_other entries entry place ((end_idle entry.content h).writes_not place))
     ∙ undone-agree _ (is_unsettled entries history) place _ entries (λ before x after e w. same before x after e (is_of (txn_of x.content) entry.content) refl)
     ∙ sym (settled-undone entries history place)
   where
@@ -219,7 +219,7 @@ settled_after_end entries entry history place h settles =
         ∙ sym (not_left before x after e (same_txn-true (txn_of entry.content) (txn_of x.content) t))
     same before x after e false f =
         unsettled-same entries (entries ++ entry ∷ []) history x
-        (is_undone_push x.number entries entry ∙ ap (λ b. is_undone entries x.number || b) (end_undoes entry.content x.number h) ∙ or_false _)
+        (is_undone_push x.number entries entry ∙ ap (λ b. is_undone entries x.number || b) ((end_idle entry.content h).undoes_not x.number) ∙ or_false _)
         (λ k. is_open_push-other (txn_of x.content) entries entry f)
 
 -- an unsettled entry is of an open transaction, which locks its place exclusively
