@@ -7,6 +7,7 @@ pub mod LogWords
 pub mod Low
 pub mod Numbered
 pub mod Open
+mod Parts
 pub mod Places
 pub mod Rest
 pub mod Settled

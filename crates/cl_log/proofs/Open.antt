@@ -9,7 +9,6 @@ use Rattle.std.proofs.lemmas.List.Folds.{list_any-append}
 use Rattle.std.proofs.lemmas.List.Sums.{fold_push}
 use Rattle.cl_types.specs.declared.operations.TxnId.{TxnId}
 use Rattle.cl_log.specs.declared.records.LogRec.{LogRec}
-use Rattle.cl_log.specs.declared.stage.Stage.{Stage}
 use Rattle.cl_log.specs.declared.stage.Stage.TheVariants.{Unknown, Running, Prepared, Ended}
 use Rattle.cl_log.specs.LogEntry.{LogEntry, numbered}
 use Rattle.cl_log.specs.Kind.{txn_of, is_of, opens, is_prepared, is_end}
@@ -32,56 +31,41 @@ numbers_of_one false entry = refl
 pub list_any_push : (p : LogEntry → Bool) (entries : List LogEntry) (entry : LogEntry) → list_any p (entries ++ entry ∷ []) ≡ (list_any p entries || p entry)
 list_any_push p entries entry = list_any-append p entries (entry ∷ []) ∙ ap (λ b. list_any p entries || b) (or_false (p entry))
 
-pub has_begun_push : (txn : TxnId) (entries : List LogEntry) (entry : LogEntry) → has_begun (entries ++ entry ∷ []) txn ≡ (has_begun entries txn || (is_of txn entry.content && opens entry.content))
-unfolding has_begun
-has_begun_push txn entries entry = list_any_push _ entries entry
+-- whether a transaction has some record, in a log with one more record, of the transaction and of another
+module _ (test : LogRec → Bool) (txn : TxnId) (entries : List LogEntry) (entry : LogEntry) where
+  has_record_push : has_record test txn (entries ++ entry ∷ []) ≡ (has_record test txn entries || (is_of txn entry.content && test entry.content))
+  has_record_push = list_any_push (λ e. is_of txn e.content && test e.content) entries entry
 
-pub has_prepared_push : (txn : TxnId) (entries : List LogEntry) (entry : LogEntry) → has_prepared (entries ++ entry ∷ []) txn ≡ (has_prepared entries txn || (is_of txn entry.content && is_prepared entry.content))
-unfolding has_prepared
-has_prepared_push txn entries entry = list_any_push _ entries entry
+  has_record_push-own : is_of txn entry.content ≡ true → has_record test txn (entries ++ entry ∷ []) ≡ (has_record test txn entries || test entry.content)
+  has_record_push-own own = has_record_push ∙ ap (λ b. has_record test txn entries || (b && test entry.content)) own
+
+  has_record_push-other : is_of txn entry.content ≡ false → has_record test txn (entries ++ entry ∷ []) ≡ has_record test txn entries
+  has_record_push-other other = has_record_push ∙ ap (λ b. has_record test txn entries || (b && test entry.content)) other ∙ or_false _
+
+has_begun_push-own : (txn : TxnId) (entries : List LogEntry) (entry : LogEntry) → is_of txn entry.content ≡ true → has_begun (entries ++ entry ∷ []) txn ≡ (has_begun entries txn || opens entry.content)
+unfolding has_begun
+has_begun_push-own txn entries entry own = has_record_push-own opens txn entries entry own
+
+has_begun_push-other : (txn : TxnId) (entries : List LogEntry) (entry : LogEntry) → is_of txn entry.content ≡ false → has_begun (entries ++ entry ∷ []) txn ≡ has_begun entries txn
+unfolding has_begun
+has_begun_push-other txn entries entry other = has_record_push-other opens txn entries entry other
 
 pub has_ended_push : (txn : TxnId) (entries : List LogEntry) (entry : LogEntry) → has_ended (entries ++ entry ∷ []) txn ≡ (has_ended entries txn || (is_of txn entry.content && is_end entry.content))
 unfolding has_ended
-has_ended_push txn entries entry = list_any_push _ entries entry
+has_ended_push txn entries entry = has_record_push is_end txn entries entry
 
--- an empty log has no transaction
-pub has_begun-nil : (txn : TxnId) → has_begun [] txn ≡ false
-unfolding has_begun
-has_begun-nil txn = refl
+pub has_ended_push-own : (txn : TxnId) (entries : List LogEntry) (entry : LogEntry) → is_of txn entry.content ≡ true → has_ended (entries ++ entry ∷ []) txn ≡ (has_ended entries txn || is_end entry.content)
+unfolding has_ended
+has_ended_push-own txn entries entry own = has_record_push-own is_end txn entries entry own
 
-pub has_prepared-nil : (txn : TxnId) → has_prepared [] txn ≡ false
-unfolding has_prepared
-has_prepared-nil txn = refl
+has_ended_push-other : (txn : TxnId) (entries : List LogEntry) (entry : LogEntry) → is_of txn entry.content ≡ false → has_ended (entries ++ entry ∷ []) txn ≡ has_ended entries txn
+unfolding has_ended
+has_ended_push-other txn entries entry other = has_record_push-other is_end txn entries entry other
 
+-- an empty log has no End
 pub has_ended-nil : (txn : TxnId) → has_ended [] txn ≡ false
 unfolding has_ended
 has_ended-nil txn = refl
-
--- of a record of the transaction
-push_own : (test : LogRec → Bool) (old : Bool) (own : Bool) (content : LogRec) → own ≡ true → (old || (own && test content)) ≡ (old || test content)
-push_own test old own content h = ap (λ b. old || (b && test content)) h
-
--- of a record of another
-push_other : (test : LogRec → Bool) (old : Bool) (own : Bool) (content : LogRec) → own ≡ false → (old || (own && test content)) ≡ old
-push_other test old own content h = ap (λ b. old || (b && test content)) h ∙ or_false old
-
-pub has_begun_push-own : (txn : TxnId) (entries : List LogEntry) (entry : LogEntry) → is_of txn entry.content ≡ true → has_begun (entries ++ entry ∷ []) txn ≡ (has_begun entries txn || opens entry.content)
-has_begun_push-own txn entries entry h = has_begun_push txn entries entry ∙ push_own opens _ _ entry.content h
-
-pub has_begun_push-other : (txn : TxnId) (entries : List LogEntry) (entry : LogEntry) → is_of txn entry.content ≡ false → has_begun (entries ++ entry ∷ []) txn ≡ has_begun entries txn
-has_begun_push-other txn entries entry h = has_begun_push txn entries entry ∙ push_other opens _ _ entry.content h
-
-pub has_prepared_push-own : (txn : TxnId) (entries : List LogEntry) (entry : LogEntry) → is_of txn entry.content ≡ true → has_prepared (entries ++ entry ∷ []) txn ≡ (has_prepared entries txn || is_prepared entry.content)
-has_prepared_push-own txn entries entry h = has_prepared_push txn entries entry ∙ push_own is_prepared _ _ entry.content h
-
-pub has_prepared_push-other : (txn : TxnId) (entries : List LogEntry) (entry : LogEntry) → is_of txn entry.content ≡ false → has_prepared (entries ++ entry ∷ []) txn ≡ has_prepared entries txn
-has_prepared_push-other txn entries entry h = has_prepared_push txn entries entry ∙ push_other is_prepared _ _ entry.content h
-
-pub has_ended_push-own : (txn : TxnId) (entries : List LogEntry) (entry : LogEntry) → is_of txn entry.content ≡ true → has_ended (entries ++ entry ∷ []) txn ≡ (has_ended entries txn || is_end entry.content)
-has_ended_push-own txn entries entry h = has_ended_push txn entries entry ∙ push_own is_end _ _ entry.content h
-
-pub has_ended_push-other : (txn : TxnId) (entries : List LogEntry) (entry : LogEntry) → is_of txn entry.content ≡ false → has_ended (entries ++ entry ∷ []) txn ≡ has_ended entries txn
-has_ended_push-other txn entries entry h = has_ended_push txn entries entry ∙ push_other is_end _ _ entry.content h
 
 -- a record of another transaction changes nothing of this one
 pub is_open_push-other : (txn : TxnId) (entries : List LogEntry) (entry : LogEntry) → is_of txn entry.content ≡ false → is_open (entries ++ entry ∷ []) txn ≡ is_open entries txn
@@ -199,12 +183,15 @@ unended_of-renumbered m n xs =
     ap (filter (is_open (numbered m xs))) (txns_of-renumbered m n xs)
     ∙ filter_agree (is_open (numbered m xs)) (is_open (numbered n xs)) (λ txn. is_open-renumbered txn m n xs) (txns_of (numbered n xs))
 
+-- a stage is determined by three tests
+pub cong_stage : {a b c d e f : Bool} → a ≡ b → c ≡ d → e ≡ f → cond (not a) Unknown (cond c Ended (cond e Prepared Running)) ≡ cond (not b) Unknown (cond d Ended (cond f Prepared Running))
+cong_stage {a} {b} {c} {d} {e} {f} begun ended prepared =
+    ap (λ x. cond (not x) Unknown (cond c Ended (cond e Prepared Running))) begun
+    ∙ ap (λ x. cond (not b) Unknown (cond x Ended (cond e Prepared Running))) ended
+    ∙ ap (λ x. cond (not b) Unknown (cond d Ended (cond x Prepared Running))) prepared
+
 pub stage_of-renumbered : (txn : TxnId) (m n : ℕ) (xs : List LogRec) → stage_of (numbered m xs) txn ≡ stage_of (numbered n xs) txn
-stage_of-renumbered txn m n xs =
-    let stage : Bool → Bool → Bool → Stage = λ begun ended prepared. cond (not begun) Unknown (cond ended Ended (cond prepared Prepared Running)) in
-    ap (λ b. stage b (has_ended (numbered m xs) txn) (has_prepared (numbered m xs) txn)) (has_begun-renumbered txn m n xs)
-    ∙ ap (λ b. stage (has_begun (numbered n xs) txn) b (has_prepared (numbered m xs) txn)) (has_ended-renumbered txn m n xs)
-    ∙ ap (stage (has_begun (numbered n xs) txn) (has_ended (numbered n xs) txn)) (has_prepared-renumbered txn m n xs)
+stage_of-renumbered txn m n xs = cong_stage (has_begun-renumbered txn m n xs) (has_ended-renumbered txn m n xs) (has_prepared-renumbered txn m n xs)
 
 -- where the first open transaction begins, by the place of its first record
 pub low_of-numbered : (n : ℕ) (xs : List LogRec) (next : ℕ) →
@@ -240,11 +227,3 @@ is_open-stage entries txn = by_parts (has_begun entries txn) (has_ended entries 
     by_parts true true prepared = refl
     by_parts true false true = refl
     by_parts true false false = refl
-
--- the stage of another transaction stays
-pub stage_of_push-other : (txn : TxnId) (entries : List LogEntry) (entry : LogEntry) → is_of txn entry.content ≡ false → stage_of (entries ++ entry ∷ []) txn ≡ stage_of entries txn
-stage_of_push-other txn entries entry h =
-    let stage : Bool → Bool → Bool → Stage = λ begun ended prepared. cond (not begun) Unknown (cond ended Ended (cond prepared Prepared Running)) in
-    ap (λ b. stage b (has_ended (entries ++ entry ∷ []) txn) (has_prepared (entries ++ entry ∷ []) txn)) (has_begun_push-other txn entries entry h)
-    ∙ ap (λ b. stage (has_begun entries txn) b (has_prepared (entries ++ entry ∷ []) txn)) (has_ended_push-other txn entries entry h)
-    ∙ ap (stage (has_begun entries txn) (has_ended entries txn)) (has_prepared_push-other txn entries entry h)

@@ -6,6 +6,9 @@ use crate::{LogRec, Stage, scans};
 use cl_types::{GrowingList, NoMemory, TxnId};
 use std::alloc::Global;
 
+/// The greatest number of a record.
+pub const LOG_NUMBER_MAX: u64 = 1 << 62;
+
 /// Log numbers in order.
 pub type NumberList = GrowingList<u64>;
 
@@ -77,19 +80,18 @@ impl Log {
         self.next() - 1
     }
 
-    /// Adds a record at the end and gives its number. The last number is below 2^62. It takes no
-    /// memory.
-    pub fn append(&mut self, entry: LogRec) -> u64
+    /// Appends a record and gives its number, which is at most `LOG_NUMBER_MAX`. It takes no memory.
+    pub fn append(&mut self, content: LogRec) -> u64
         requires room { 1 ≤ room self.old }
-        requires numbers { next_number self.old ≤ 2 ^ 62 }
+        requires numbers { next_number self.old ≤ LOG_NUMBER_MAX }
         ensures number { result ≡ next_number self.old }
-        ensures entries { entries self.new ≡ entries self.old ++ record { number = result; content = entry } ∷ [] }
+        ensures entries { entries self.new ≡ entries self.old ++ record { number = result; content = content } ∷ [] }
         ensures first { first_kept self.new ≡ first_kept self.old }
         ensures next { next_number self.new ≡ result + 1 }
         ensures keeps_room { room self.old ≤ room self.new + 1 }
     {
         let number = self.next();
-        match self.records.push(entry) {
+        match self.records.push(content) {
             Ok(()) => number,
             Err(_) => unreachable!(),
         }
@@ -106,6 +108,9 @@ impl Log {
     }
 
     /// The number of the first record of an open transaction, or the next number where none is open.
+    ///
+    /// It reads the records before that one, and from each of these on to the End of its
+    /// transaction. A transaction without an End costs a walk over the whole log.
     pub fn low(&self) -> u64
         ensures { result ≡ low_of (entries self.now) (next_number self.now) }
     {
@@ -113,13 +118,17 @@ impl Log {
     }
 
     /// How far a transaction is.
+    ///
+    /// It walks from the end of the log. It stops once it has read an End of the transaction and a
+    /// record that opens it; where either is missing it reads the whole log.
     pub fn stage(&self, txn: TxnId) -> Stage
         ensures { result ≡ stage_of (entries self.now) txn }
     {
         scans::stage_of(self.records.as_slice(), txn)
     }
 
-    /// The numbers of all records of a transaction that are kept, of whichever kind, in order.
+    /// The numbers of all records of a transaction that are kept, of whichever kind, in order. It
+    /// walks over the log once.
     pub fn chain(&self, txn: TxnId) -> Result<NumberList, NoMemory>
         ensures { IfOk result (λ numbers. items numbers ≡ chain_of (entries self.now) txn) }
     {
@@ -127,6 +136,10 @@ impl Log {
     }
 
     /// The open transactions, by first log number.
+    ///
+    /// It reads each record, and from it on to the End of its transaction. An open transaction
+    /// costs a walk over the whole log, once; so does each record of a transaction that was
+    /// decided here and neither began nor ended here.
     pub fn unended(&self) -> Result<TxnList, NoMemory>
         ensures { IfOk result (λ txns. items txns ≡ unended_of (entries self.now)) }
     {
@@ -135,6 +148,9 @@ impl Log {
 
     /// The number of a transaction's last write that is not undone, or `None` where nothing is left
     /// to undo.
+    ///
+    /// It walks from the end of the log, and from each write of the transaction on to its
+    /// compensation. It costs one more walk over the whole log to see that a write has none.
     pub fn rest_to_undo(&self, txn: TxnId) -> Option<u64>
         ensures { result ≡ first_number (rest_to_undo (entries self.now) txn) }
     {

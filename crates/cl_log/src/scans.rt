@@ -1,10 +1,10 @@
 //! Walks over the records of a log.
-ghost use Rattle.std.specs.Prelude.{◌≡◌, ◌+◌, ◌^◌, ◌<◌, ◌&&◌, not, length, IfOk, IfSome};
+ghost use Rattle.std.specs.Prelude.{◌≡◌, ◌+◌, ◌^◌, ◌<◌, ◌≤◌, ◌&&◌, ◌||◌, not, length, if◌then◌else◌, IfOk, IfSome};
 ghost use Rattle.std.specs.List.{list_any, position_from};
 ghost use Rattle.cl_types.specs.GrowingList.{items};
 ghost use Rattle.cl_log.specs.LogEntry.{numbered};
 ghost use Rattle.cl_log.specs.Kind.{txn_of, is_of, opens, is_prepared, is_end, undoes, can_be_undone};
-ghost use Rattle.cl_log.specs.Open.{has_begun, has_prepared, has_ended, is_open, is_among, stage_of, low_of, chain_of, unended_of};
+ghost use Rattle.cl_log.specs.Open.{has_begun, has_ended, is_open, is_among, stage_of, low_of, chain_of, unended_of};
 ghost use Rattle.cl_log.specs.Rest.{is_undone, rest_to_undo, first_number};
 
 use crate::kinds::is_same_txn;
@@ -12,7 +12,7 @@ use crate::{LogRec, NumberList, Stage, TxnList};
 use cl_types::{NoMemory, TxnId};
 use std::alloc::Global;
 
-// Whether a record opens the transaction.
+// Whether one of these records opens the transaction.
 fn some_opens(records: &[LogRec], txn: TxnId) -> bool
     ensures { result ≡ list_any (λ content. is_of txn content && opens content) records.now }
 {
@@ -21,16 +21,7 @@ fn some_opens(records: &[LogRec], txn: TxnId) -> bool
         .any(|content| content.is_of(txn) && content.opens())
 }
 
-// Whether a record prepares the transaction.
-fn some_prepares(records: &[LogRec], txn: TxnId) -> bool
-    ensures { result ≡ list_any (λ content. is_of txn content && is_prepared content) records.now }
-{
-    records
-        .iter()
-        .any(|content| content.is_of(txn) && content.is_prepared())
-}
-
-// Whether a record ends the transaction.
+// Whether one of these records ends the transaction.
 fn some_ends(records: &[LogRec], txn: TxnId) -> bool
     ensures { result ≡ list_any (λ content. is_of txn content && is_end content) records.now }
 {
@@ -39,46 +30,47 @@ fn some_ends(records: &[LogRec], txn: TxnId) -> bool
         .any(|content| content.is_of(txn) && content.is_end())
 }
 
-// Whether a compensation names the number as undone.
+// Whether one of these records is a compensation that names the number as undone.
 fn some_undoes(records: &[LogRec], number: u64) -> bool
     ensures { result ≡ list_any (λ content. undoes number content) records.now }
 {
     records.iter().any(|content| content.undoes(number))
 }
 
-// Whether the transaction has a Touch, Set, Add or Prepared.
-fn has_begun(records: &[LogRec], txn: TxnId) -> bool
+// Whether the transaction has a Touch, Set, Add or Prepared: one is sought from the index to the
+// end first, then before the index.
+fn has_begun(records: &[LogRec], index: usize, txn: TxnId) -> bool
+    requires { index ≤ length records.now }
     ensures { result ≡ has_begun (numbered 0 records.now) txn }
 {
-    some_opens(records, txn)
+    some_opens(&records[index..], txn) || some_opens(&records[..index], txn)
 }
 
-// Whether the transaction has a Prepared.
-fn has_prepared(records: &[LogRec], txn: TxnId) -> bool
-    ensures { result ≡ has_prepared (numbered 0 records.now) txn }
-{
-    some_prepares(records, txn)
-}
-
-// Whether the transaction has an End.
-fn has_ended(records: &[LogRec], txn: TxnId) -> bool
+// Whether the transaction has an End: one is sought from the index to the end first, then before
+// the index.
+fn has_ended(records: &[LogRec], index: usize, txn: TxnId) -> bool
+    requires { index ≤ length records.now }
     ensures { result ≡ has_ended (numbered 0 records.now) txn }
 {
-    some_ends(records, txn)
+    some_ends(&records[index..], txn) || some_ends(&records[..index], txn)
 }
 
-// Whether a compensation names the number as undone.
-fn is_undone(records: &[LogRec], number: u64) -> bool
+// Whether a compensation names the number as undone: one is sought from the index to the end first,
+// then before the index.
+fn is_undone(records: &[LogRec], index: usize, number: u64) -> bool
+    requires { index ≤ length records.now }
     ensures { result ≡ is_undone (numbered 0 records.now) number }
 {
-    some_undoes(records, number)
+    some_undoes(&records[index..], number) || some_undoes(&records[..index], number)
 }
 
-// Whether the transaction is open.
-fn is_open(records: &[LogRec], txn: TxnId) -> bool
+// Whether the transaction of the record at the index is open. Where its End follows that record, it
+// reads up to the End alone.
+fn is_open(records: &[LogRec], index: usize, txn: TxnId) -> bool
+    requires { index ≤ length records.now }
     ensures { result ≡ is_open (numbered 0 records.now) txn }
 {
-    has_begun(records, txn) && !has_ended(records, txn)
+    !has_ended(records, index, txn) && has_begun(records, index, txn)
 }
 
 // Whether the transaction is among these.
@@ -88,39 +80,89 @@ fn is_among(txns: &[TxnId], txn: TxnId) -> bool
     txns.iter().any(|other| is_same_txn(txn, *other))
 }
 
+// What the records that were read say of a transaction.
+#[derive(Clone, Copy)]
+struct Seen {
+    begun: bool,
+    prepared: bool,
+    ended: bool,
+}
+
+impl Seen {
+    // With one more record.
+    fn with(self, content: &LogRec, txn: TxnId) -> Seen
+        ensures begun { result.begun ≡ ((is_of txn content.now && opens content.now) || self.begun) }
+        ensures prepared { result.prepared ≡ ((is_of txn content.now && is_prepared content.now) || self.prepared) }
+        ensures ended { result.ended ≡ ((is_of txn content.now && is_end content.now) || self.ended) }
+    {
+        if !content.is_of(txn) {
+            return self;
+        }
+        Seen {
+            begun: content.opens() || self.begun,
+            prepared: content.is_prepared() || self.prepared,
+            ended: content.is_end() || self.ended,
+        }
+    }
+
+    // How far the transaction is, where all records were read.
+    fn stage(self) -> Stage
+        ensures { result ≡ (if not self.begun then Stage.Unknown else
+            (if self.ended then Stage.Ended else (if self.prepared then Stage.Prepared else Stage.Running))) }
+    {
+        if !self.begun {
+            Stage::Unknown
+        } else if self.ended {
+            Stage::Ended
+        } else if self.prepared {
+            Stage::Prepared
+        } else {
+            Stage::Running
+        }
+    }
+}
+
 /// How far the transaction is.
 pub fn stage_of(records: &[LogRec], txn: TxnId) -> Stage
     ensures { result ≡ stage_of (numbered 0 records.now) txn }
 {
-    if !has_begun(records, txn) {
-        Stage::Unknown
-    } else if has_ended(records, txn) {
-        Stage::Ended
-    } else if has_prepared(records, txn) {
-        Stage::Prepared
-    } else {
-        Stage::Running
+    let mut seen = Seen {
+        begun: false,
+        prepared: false,
+        ended: false,
+    };
+    let mut index = records.len();
+    while index > 0 {
+        index -= 1;
+        seen = seen.with(&records[index], txn);
+        if seen.begun && seen.ended {
+            return Stage::Ended;
+        }
     }
+    seen.stage()
 }
 
-// The place of the first record of an open transaction.
+// The index of the first record of an open transaction.
 fn first_open(records: &[LogRec]) -> Option<usize>
-    ensures bound { IfSome result (λ place. place < length records.now) }
-    ensures place { result ≡ position_from (λ content. is_open (numbered 0 records.now) (txn_of content)) 0 records.now }
+    ensures bound { IfSome result (λ index. index < length records.now) }
+    ensures index { result ≡ position_from (λ content. is_open (numbered 0 records.now) (txn_of content)) 0 records.now }
 {
-    records
-        .iter()
-        .position(|content| is_open(records, content.txn()))
+    for (index, content) in records.iter().enumerate() {
+        if is_open(records, index, content.txn()) {
+            return Some(index);
+        }
+    }
+    None
 }
 
-/// The number of the first record of an open transaction, or the next number where none is open,
-/// where the first record has the number `first`.
+/// The number of the first record of an open transaction, or the next number where none is open. The
+/// first record has the number `first`.
 pub fn low_of(records: &[LogRec], first: u64) -> u64
     requires { first + length records.now < 2 ^ 64 }
     ensures { result ≡ low_of (numbered first records.now) (first + length records.now) }
 {
     match first_open(records) {
-        Some(place) => first + place as u64,
+        Some(index) => first + index as u64,
         None => first + records.len() as u64,
     }
 }
@@ -151,20 +193,21 @@ pub fn open_txns(alloc: Global, records: &[LogRec]) -> Result<TxnList, NoMemory>
     ensures { IfOk result (λ txns. items txns ≡ unended_of (numbered 0 records.now)) }
 {
     let mut txns = TxnList::new(alloc);
-    for content in records {
+    for (index, content) in records.iter().enumerate() {
         let txn = content.txn();
-        if is_open(records, txn) && !is_among(txns.as_slice(), txn) {
+        if !is_among(txns.as_slice(), txn) && is_open(records, index, txn) {
             txns.push(txn)?;
         }
     }
     Ok(txns)
 }
 
-// Whether the record of a number is left to undo for the transaction.
-fn is_left(records: &[LogRec], content: &LogRec, number: u64, txn: TxnId) -> bool
+// Whether a record, which stands at the index and has the number, is left to undo for the transaction.
+fn is_left(records: &[LogRec], index: usize, content: &LogRec, number: u64, txn: TxnId) -> bool
+    requires { index ≤ length records.now }
     ensures { result ≡ (is_of txn content.now && (can_be_undone content.now && not (is_undone (numbered 0 records.now) number))) }
 {
-    content.is_of(txn) && content.can_be_undone() && !is_undone(records, number)
+    content.is_of(txn) && content.can_be_undone() && !is_undone(records, index, number)
 }
 
 /// The number of the last write of a transaction that is not undone, where the first record has the
@@ -173,11 +216,11 @@ pub fn last_left(records: &[LogRec], first: u64, txn: TxnId) -> Option<u64>
     requires { first + length records.now < 2 ^ 64 }
     ensures { result ≡ first_number (rest_to_undo (numbered first records.now) txn) }
 {
-    let mut place = records.len();
-    while place > 0 {
-        place -= 1;
-        let number = first + place as u64;
-        if is_left(records, &records[place], number, txn) {
+    let mut index = records.len();
+    while index > 0 {
+        index -= 1;
+        let number = first + index as u64;
+        if is_left(records, index, &records[index], number, txn) {
             return Some(number);
         }
     }

@@ -9,11 +9,16 @@ use std::alloc::Global;
 
 /// The compensation that undoes the write of a number, a Set or an Add, where `before` is the state
 /// number that its record has now.
-pub fn undo_of(alloc: Global, entry: &LogRec, number: u64, before: u64) -> Result<LogRec, NoMemory>
-    requires { can_be_undone entry.now ≡ true }
-    ensures { IfOk result (λ undo. undo ≡ undo_of entry.now number before) }
+pub fn undo_of(
+    alloc: Global,
+    content: &LogRec,
+    number: u64,
+    before: u64,
+) -> Result<LogRec, NoMemory>
+    requires { can_be_undone content.now ≡ true }
+    ensures { IfOk result (λ undo. undo ≡ undo_of content.now number before) }
 {
-    match entry {
+    match content {
         LogRec::Set(txn, table, key, _, old, _) => {
             let form = Form::Image(copy_value(alloc, old.as_ref())?);
             Ok(LogRec::Comp(*txn, table.copy(), key.copy(), before, number, form))

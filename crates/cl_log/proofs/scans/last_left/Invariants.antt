@@ -4,12 +4,12 @@ use Rattle.cl_log.specs.LogEntry.{numbered}
 use Rattle.cl_log.specs.Rest.{is_left_of}
 use Rattle.cl_log.proofs.scans.last_left.Given as goal
 
--- none of the records from the place on is left to undo
-abbrev pub invariant-loop-place : goal.invariant-loop-place
-invariant-loop-place l = record {
-  within : l.place ≤ length l.records;
-  none_after : filter (is_left_of (numbered l.first l.records) l.txn) (drop l.place (numbered l.first l.records)) ≡ [];
+-- none of the records from the index on is left to undo
+abbrev pub invariant-loop-index : goal.invariant-loop-index
+invariant-loop-index l = record {
+  within : l.index ≤ length l.records;
+  none_after : filter (is_left_of (numbered l.first l.records) l.txn) (drop l.index (numbered l.first l.records)) ≡ [];
 }
 
-abbrev pub decreases-loop-place : goal.decreases-loop-place
-decreases-loop-place l = l.place
+abbrev pub decreases-loop-index : goal.decreases-loop-index
+decreases-loop-index l = l.index

@@ -7,38 +7,38 @@ use Rattle.cl_log.specs.LogEntry.{numbered}
 use Rattle.cl_log.specs.Open.{is_open, is_among, txns_of, unended_of}
 use Rattle.cl_log.proofs.Open.{open_pushed, open_kept}
 use Rattle.cl_log.proofs.scans.open_txns.Goals as goal
-use Rattle.cl_log.proofs.scans.open_txns.Goals.{then-is_open+then-not-is_among+in_ok-push, else-is_open, else-is_open-via-then-is_open+else-not-is_among, else-is_open-via-else-is_open}
+use Rattle.cl_log.proofs.scans.open_txns.Goals.{then-not-is_among+then-is_open+in_ok-push, else-not-is_among, else-not-is_among-via-then-not-is_among+else-is_open, else-not-is_among-via-else-not-is_among}
 
-pub loop-content-init : goal.loop-content-init
+pub loop-index-init : goal.loop-index-init
 unfolding txns_of
-loop-content-init c = c.new-txns.ensures
+loop-index-init c = c.new-txns.ensures
 
-pub loop-content-preserved : goal.loop-content-preserved
-loop-content-preserved c =
+pub loop-index-preserved : goal.loop-index-preserved
+loop-index-preserved c =
     let p = is_open (numbered 0 c.args.records.now) in
-    let i = c.loop-content.content-index in
+    let i = c.loop-index.index in
     let xs = c.args.records.now in
-    let x = c.content-item.result in
-    let old = items c.loop-content.txns in
+    let x = c.index-records-index.result in
+    let old = items c.loop-index.txns in
     let t = c.txn-txn.result in
-    elim c.if-is_open.branch [
-      | then-is_open+then-not-is_among+in_ok-push w ↦
+    elim c.if-not-is_among.branch [
+      | then-not-is_among+then-is_open+in_ok-push w ↦
           ap items w.txns-is ∙ w.in_ok-push.ensures.ok
-          ∙ open_pushed p i xs x old t c.loop-content-test.true c.content-item.is c.loop-content.invariant c.txn-txn.ensures
-          (sym c.is_open.ensures ∙ w.if-is_open.true)
-          (sym (w.is_among.ensures ∙ ap (is_among t) w.as_slice.ensures) ∙ w.if-not-is_among.true)
-      | else-is_open w ↦
+          ∙ open_pushed p i xs x old t c.loop-index-test.true c.index-records-index.is c.loop-index.invariant c.txn-txn.ensures
+          (sym w.is_open.ensures ∙ w.if-is_open.true)
+          (sym (c.is_among.ensures ∙ ap (is_among t) c.as_slice.ensures) ∙ w.if-not-is_among.true)
+      | else-not-is_among w ↦
           ap items w.txns-is
-          ∙ open_kept p i xs x old t c.loop-content-test.true c.content-item.is c.loop-content.invariant c.txn-txn.ensures
-          (elim w.else-is_open.branch [
-            | else-is_open-via-then-is_open+else-not-is_among w' ↦
-                and_right (p t) (not (is_among t old)) (not_from_true _ (sym (w'.is_among.ensures ∙ ap (is_among t) w'.as_slice.ensures) ∙ w'.if-not-is_among.false))
-            | else-is_open-via-else-is_open w' ↦ and_left (p t) (not (is_among t old)) (sym c.is_open.ensures ∙ w'.if-is_open.false)
+          ∙ open_kept p i xs x old t c.loop-index-test.true c.index-records-index.is c.loop-index.invariant c.txn-txn.ensures
+          (elim w.else-not-is_among.branch [
+            | else-not-is_among-via-then-not-is_among+else-is_open w' ↦ and_left (p t) (not (is_among t old)) (sym w'.is_open.ensures ∙ w'.if-is_open.false)
+            | else-not-is_among-via-else-not-is_among w' ↦
+                and_right (p t) (not (is_among t old)) (not_from_true _ (sym (c.is_among.ensures ∙ ap (is_among t) c.as_slice.ensures) ∙ w'.if-not-is_among.false))
           ])
     ]
 
 pub returns : goal.returns
 unfolding unended_of
 returns c =
-    c.loop-content.invariant
-    ∙ ap (λ xs. filter (is_open (numbered 0 c.args.records.now)) (txns_of (numbered 0 xs))) (take_all _ _ c.loop-content-test.false)
+    c.loop-index.invariant
+    ∙ ap (λ xs. filter (is_open (numbered 0 c.args.records.now)) (txns_of (numbered 0 xs))) (take_all _ _ c.loop-index-test.false)

@@ -10,5 +10,5 @@ unfolding entries next_number
 returns-clause-entries c =
     let old = c.args.self.now in
     ap (numbered old.first) c.in-Ok.ensures.ok
-    ∙ numbered_push old.first (items old.records) c.args.entry
-    ∙ ap (λ k. numbered old.first (items old.records) ++ (let entry : LogEntry = record { number = k; content = c.args.entry } in entry) ∷ []) (sym c.next-number.ensures)
+    ∙ numbered_push old.first (items old.records) c.args.content
+    ∙ ap (λ k. numbered old.first (items old.records) ++ (let entry : LogEntry = record { number = k; content = c.args.content } in entry) ∷ []) (sym c.next-number.ensures)
