@@ -16,7 +16,7 @@ ghost use Rattle.cl_redo.specs.Redo.{redone_as, with_lock, grants_after, needs_n
 use crate::Redone;
 use crate::write::{finish, guard};
 use cl_locks::{LockRefused, Locks};
-use cl_log::{Log, LogRec};
+use cl_log::{LOG_NUMBER_MAX, Log, LogRec};
 use cl_store::Store;
 use cl_types::{Key, Mode, NoMemory, TableName, TxnId};
 use std::alloc::Global;
@@ -56,38 +56,38 @@ fn lock(
     }
 }
 
-// Does what a record does to the store and to the locks. Where memory is wanting it does nothing.
+// Does what a record does to the store and to the locks. Where an allocation fails it does nothing.
 fn redo(
     alloc: Global,
     store: &mut Store,
     locks: &mut Locks,
     number: u64,
-    entry: &LogRec,
+    content: &LogRec,
 ) -> Result<Redone, NoMemory>
-    requires meets { MeetsWrite (stored store.old) (record { number = number; content = entry.now }) }
-    requires free { IsFree (held locks.old) entry.now }
-    ensures redone { IfOk result (λ redone. redone ≡ redone_as (stored store.old) entry.now) }
-    ensures store { OnOk result ((place : Place) → stored store.new place ≡ redo_by_guard place (stored store.old place) (record { number = number; content = entry.now })) }
-    ensures locks { OnOk result ((place : Place) → grants_at locks.new place ≡ grants_after entry.now place (grants_at locks.old place)) }
-    ensures modes { OnOk result ((txn : TxnId) (place : Place) → held locks.new txn place ≡ locks_after (held locks.old) (record { number = number; content = entry.now }) txn place) }
+    requires meets { MeetsWrite (stored store.old) (record { number = number; content = content.now }) }
+    requires free { IsFree (held locks.old) content.now }
+    ensures redone { IfOk result (λ redone. redone ≡ redone_as (stored store.old) content.now) }
+    ensures store { OnOk result ((place : Place) → stored store.new place ≡ redo_by_guard place (stored store.old place) (record { number = number; content = content.now })) }
+    ensures locks { OnOk result ((place : Place) → grants_at locks.new place ≡ grants_after content.now place (grants_at locks.old place)) }
+    ensures modes { OnOk result ((txn : TxnId) (place : Place) → held locks.new txn place ≡ locks_after (held locks.old) (record { number = number; content = content.now }) txn place) }
     ensures room { room store.old ≤ room store.new + 1 }
     ensures err_room { OnErr result (room store.old ≤ room store.new) }
     ensures err_store { OnErr result ((place : Place) → stored store.new place ≡ stored store.old place) }
     ensures err_locks { OnErr result ((place : Place) → grants_at locks.new place ≡ grants_at locks.old place) }
-    ensures roomy { needs_no_memory entry.now ≡ true → IsOk result }
+    ensures roomy { needs_no_memory content.now ≡ true → IsOk result }
 {
-    match entry {
+    match content {
         LogRec::Touch(txn, table, key, mode) => {
             lock(locks, *txn, table, key, *mode)?;
             Ok(Redone::Marked)
         }
         LogRec::Set(txn, table, key, before, ..) | LogRec::Add(txn, table, key, before, _) => {
-            let write = guard(alloc, store, table, key, *before, entry)?;
+            let write = guard(alloc, store, table, key, *before, content)?;
             lock(locks, *txn, table, key, Mode::Exclusive)?;
             Ok(finish(store, table, key, number, write))
         }
         LogRec::Comp(_, table, key, before, ..) => {
-            let write = guard(alloc, store, table, key, *before, entry)?;
+            let write = guard(alloc, store, table, key, *before, content)?;
             Ok(finish(store, table, key, number, write))
         }
         LogRec::End(txn, _) => {
@@ -99,33 +99,33 @@ fn redo(
 }
 
 /// Takes the next record of a log: its write is made by guard, its lock entered, an End frees the
-/// locks of its transaction, and the record is put at the end of the log.
+/// locks of its transaction, and the record is appended to the log.
 ///
 /// Where the store and the locks were those of the log, they are those of the log with the record.
 /// On a store that is ahead, as the copy that a spare was sent, the guard skips what the store has
 /// already. An amount that does not fit the value leaves it, under the record's number. `number` is
-/// the log's last number plus 1, at most 2^62. After an `Err` all is as it was. A Prepared, an End
-/// and a Decide take no memory where the log has room.
+/// the log's last number plus 1, at most `LOG_NUMBER_MAX`. After an `Err` all is as it was. A
+/// Prepared, an End and a Decide take no memory where the log has room.
 pub fn take(
     alloc: Global,
     store: &mut Store,
     log: &mut Log,
     locks: &mut Locks,
     number: u64,
-    entry: LogRec,
+    content: LogRec,
 ) -> Result<Redone, NoMemory>
     requires number { number ≡ next_number log.old }
-    requires below { number ≤ 2 ^ 62 }
-    requires meets { MeetsWrite (stored store.old) (record { number = number; content = entry }) }
-    requires free { IsFree (held locks.old) entry }
-    requires unended { IsUnended (entries log.old) entry }
-    ensures redone { IfOk result (λ redone. redone ≡ redone_as (stored store.old) entry) }
-    ensures skipped { IfOk result (λ redone. (place : Place) → writes place entry ≡ true
+    requires below { number ≤ LOG_NUMBER_MAX }
+    requires meets { MeetsWrite (stored store.old) (record { number = number; content = content }) }
+    requires free { IsFree (held locks.old) content }
+    requires unended { IsUnended (entries log.old) content }
+    ensures redone { IfOk result (λ redone. redone ≡ redone_as (stored store.old) content) }
+    ensures skipped { IfOk result (λ redone. (place : Place) → writes place content ≡ true
         → (redone ≡ Redone.Skipped) ↔ (number ≤ (stored store.old place).0)) }
-    ensures store { OnOk result ((place : Place) → stored store.new place ≡ redo_by_guard place (stored store.old place) (record { number = number; content = entry })) }
-    ensures grants { OnOk result ((place : Place) → grants_at locks.new place ≡ grants_after entry place (grants_at locks.old place)) }
-    ensures locks { OnOk result ((txn : TxnId) (place : Place) → held locks.new txn place ≡ locks_after (held locks.old) (record { number = number; content = entry }) txn place) }
-    ensures log { OnOk result (entries log.new ≡ entries log.old ++ record { number = number; content = entry } ∷ []) }
+    ensures store { OnOk result ((place : Place) → stored store.new place ≡ redo_by_guard place (stored store.old place) (record { number = number; content = content })) }
+    ensures grants { OnOk result ((place : Place) → grants_at locks.new place ≡ grants_after content place (grants_at locks.old place)) }
+    ensures locks { OnOk result ((txn : TxnId) (place : Place) → held locks.new txn place ≡ locks_after (held locks.old) (record { number = number; content = content }) txn place) }
+    ensures log { OnOk result (entries log.new ≡ entries log.old ++ record { number = number; content = content } ∷ []) }
     ensures next { OnOk result (next_number log.new ≡ number + 1) }
     ensures room { (room store.old ≤ room store.new + 1) × (room_of_log log.old ≤ room_of_log log.new + 1) }
     ensures store_of_log { OnOk result (IsStoreOf (stored store.old) (entries log.old) → IsStoreOf (stored store.new) (entries log.new)) }
@@ -134,10 +134,10 @@ pub fn take(
     ensures err_locks { OnErr result ((place : Place) → grants_at locks.new place ≡ grants_at locks.old place) }
     ensures err_log { OnErr result ((entries log.new ≡ entries log.old) × (next_number log.new ≡ next_number log.old)) }
     ensures err_room { OnErr result ((room store.old ≤ room store.new) × (room_of_log log.old ≤ room_of_log log.new)) }
-    ensures roomy { needs_no_memory entry ≡ true → 1 ≤ room_of_log log.old → IsOk result }
+    ensures roomy { needs_no_memory content ≡ true → 1 ≤ room_of_log log.old → IsOk result }
 {
     log.reserve(1)?;
-    let redone = redo(alloc, store, locks, number, &entry)?;
-    log.append(entry);
+    let redone = redo(alloc, store, locks, number, &content)?;
+    log.append(content);
     Ok(redone)
 }

@@ -36,12 +36,12 @@ fn difference(alloc: Global, value: Option<&Value>, amount: i64) -> Result<Optio
 // The value that a record leaves where this one stands.
 fn value_after(
     alloc: Global,
-    entry: &LogRec,
+    content: &LogRec,
     value: Option<&Value>,
 ) -> Result<Option<Value>, NoMemory>
-    ensures { IfOk result (λ after. after ≡ value_after entry.now (option_copied value.entry)) }
+    ensures { IfOk result (λ after. after ≡ value_after content.now (option_copied value.entry)) }
 {
-    match entry {
+    match content {
         LogRec::Set(_, _, _, _, _, new) => copy_value(alloc, new.as_ref()),
         LogRec::Add(_, _, _, _, amount) => {
             let (_, sum) = apply_op(alloc, &Op::Add(*amount), value)?;
@@ -60,18 +60,18 @@ pub(crate) fn guard(
     table: &TableName,
     key: &Key,
     before: u64,
-    entry: &LogRec,
+    content: &LogRec,
 ) -> Result<Guarded, NoMemory>
     ensures same { (place : Place) → stored store.new place ≡ stored store.old place }
     ensures keeps_room { room store.old ≤ room store.new }
-    ensures guarded { IfOk result (λ write. write ≡ guarded entry.now before (stored store.old (table.now, key.now))) }
+    ensures guarded { IfOk result (λ write. write ≡ guarded content.now before (stored store.old (table.now, key.now))) }
     ensures room { IfOk result (λ write. CanWrite write (room store.new)) }
 {
     let (number, value) = store.get(table, key);
     if number != before {
         return Ok(Guarded::Skip);
     }
-    let value = value_after(alloc, entry, value)?;
+    let value = value_after(alloc, content, value)?;
     store.reserve(1)?;
     Ok(Guarded::Write(value))
 }
