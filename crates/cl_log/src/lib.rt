@@ -7,8 +7,6 @@ mod log;
 mod records;
 mod scans;
 mod stage;
-#[cfg(test)]
-mod tests;
 mod undo;
 
 pub use laws::{
@@ -17,7 +15,7 @@ pub use laws::{
     store_follows_records, undo_keeps_settled, undo_takes_first, unended_are_open,
     writes_undone_once,
 };
-pub use log::{Log, NumberList, TxnList};
+pub use log::{LOG_NUMBER_MAX, Log, NumberList, TxnList};
 pub use records::{Form, LogRec};
 pub use stage::Stage;
 pub use undo::undo_of;

@@ -10,10 +10,11 @@ ghost use Rattle.cl_store.specs.Store.{stored};
 ghost use Rattle.cl_redo.specs.Condition.{MeetsWrite};
 
 use cl_locks::{Locks, Mode};
-use cl_log::{Form, Log, LogRec};
+use cl_log::{Form, LOG_NUMBER_MAX, Log, LogRec};
 use cl_redo::{Redone, reserve, take};
+use cl_samples::{NoSample, is_value, key, optional_value, table};
 use cl_store::Store;
-use cl_types::{Key, NoMemory, TableName, TxnId, Value};
+use cl_types::{Key, NoMemory, TableName, TxnId};
 use std::alloc::Global;
 use std::process::Abort;
 use std::test::Fail;
@@ -29,15 +30,6 @@ struct Replica {
     store: Store,
     log: Log,
     locks: Locks,
-}
-
-fn place(key: &[u8]) -> Result<(TableName, Key), Fail> {
-    let table = TableName::read(b"t").ok_or("no table's name")?;
-    Ok((table, Key::read(key).ok_or("no key")?))
-}
-
-fn value(alloc: Global, bytes: &[u8]) -> Result<Option<Value>, Fail> {
-    Ok(Some(Value::read(alloc, bytes)?.ok_or("no value")?))
 }
 
 // Whether what stands at the place of a write meets it.
@@ -75,7 +67,7 @@ fn take_next(
     ensures alone { (other : TxnId) (place : Place) → other ≢ TXN → held replica.new.locks other place ≡ None }
 {
     let last = replica.log.last();
-    assert!(rt; last < 1 << 62);
+    assert!(rt; last < LOG_NUMBER_MAX);
     assert!(rt; is_met(&replica.store, last + 1, &entry));
     let redone = take(
         alloc,
@@ -102,31 +94,39 @@ fn new_replica(alloc: Global, first: u64) -> Replica
     }
 }
 
-// Whether the place has the state number and a value of these bytes, or none.
+// Whether a replica has this last log number, this state number and value at `t b`, and these locks at
+// `t a` and `t b`.
 fn stands(
-    store: &Store,
-    (table, key): (&TableName, &Key),
-    number: u64,
-    bytes: Option<&[u8]>,
-) -> bool {
-    let (found, value) = store.get(table, key);
-    found == number
-        && match (value, bytes) {
-            (Some(value), Some(bytes)) => value.bytes() == bytes,
-            (None, None) => true,
-            _ => false,
-        }
+    replica: &Replica,
+    last: u64,
+    (number, bytes): (u64, Option<&[u8]>),
+    (of_a, of_b): (Option<Mode>, Option<Mode>),
+) -> Result<bool, NoSample> {
+    let (t, a, b) = (table(b"t")?, key(b"a")?, key(b"b")?);
+    let (found, value) = replica.store.get(&t, &b);
+    Ok(
+        replica.log.last() == last
+            && found == number
+            && is_value(value, bytes)
+            && replica.locks.holds(TXN, &t, &a) == of_a
+            && replica.locks.holds(TXN, &t, &b) == of_b,
+    )
 }
 
 // A replica whose log begins with record 8, and whose store has that value with that state number at `t b`.
-fn replica_with(rt: &impl Abort, alloc: Global, bytes: &[u8], number: u64) -> Result<Replica, Fail>
+fn replica_with(
+    rt: &impl Abort,
+    alloc: Global,
+    bytes: &[u8],
+    number: u64,
+) -> Result<Replica, NoSample>
     ensures running { IfOk result (λ replica. has_ended (entries replica.log) TXN ≡ false) }
     ensures alone { IfOk result (λ replica.
         (other : TxnId) (place : Place) → held replica.locks other place ≡ None) }
 {
     let mut replica = new_replica(alloc, 8);
-    let (t, b) = place(b"b")?;
-    let value = value(alloc, bytes)?;
+    let (t, b) = (table(b"t")?, key(b"b")?);
+    let value = optional_value(alloc, Some(bytes))?;
     replica.store.reserve(1)?;
     assert!(rt; replica.store.get(&t, &b).0 < number);
     replica.store.write(&t, &b, value, number);
@@ -135,45 +135,42 @@ fn replica_with(rt: &impl Abort, alloc: Global, bytes: &[u8], number: u64) -> Re
 
 #[test]
 fn an_addition_counts_once(rt: HostRuntime) -> Result<(), Fail> {
-    // The value and state number before, whether the addition of 2 over state 1 counts, and the same after it.
+    // The value and state number before, what is made of the addition of 2 over state 1, and the same after it.
     let rows = [
-        ((b"9".as_slice(), 8), Redone::Skipped, (b"9".as_slice(), 8)),
-        ((b"5", 1), Redone::Applied, (b"7", 8)),
+        (
+            "there already",
+            (b"9".as_slice(), 8),
+            Redone::Skipped,
+            (b"9".as_slice(), 8),
+        ),
+        ("new", (b"5", 1), Redone::Applied, (b"7", 8)),
     ];
-    let (t, b) = place(b"b")?;
-    for ((old, before), wanted, (new, after)) in rows {
+    for (name, (old, before), wanted, (new, after)) in rows {
         let mut replica = replica_with(&rt, rt.alloc(), old, before)?;
-        let add = LogRec::Add(TXN, t.copy(), b.copy(), 1, 2);
+        let add = LogRec::Add(TXN, table(b"t")?, key(b"b")?, 1, 2);
         let redone = take_next(&rt, rt.alloc(), &mut replica, add)?;
-        assert!(rt; redone == wanted && replica.log.last() == 8);
-        assert!(rt; stands(&replica.store, (&t, &b), after, Some(new)));
-        assert!(rt; replica.locks.holds(TXN, &t, &b) == Some(Mode::Exclusive));
+        let locks = (None, Some(Mode::Exclusive));
+        let stands = stands(&replica, 8, (after, Some(new)), locks)?;
+        assert!(rt; redone == wanted && stands, "{name}");
     }
     Ok(())
 }
 
 // The record of that number in a log of all kinds, whose last record ends the transaction.
-fn record_of_all(alloc: Global, number: u64) -> Result<LogRec, Fail>
+fn record_of_all(alloc: Global, number: u64) -> Result<LogRec, NoSample>
     ensures own { IfOk result (λ entry. txn_of entry ≡ TXN) }
     ensures open { IfOk result (λ entry. is_end entry ≡ false) }
 {
-    let (table, key) = place(if number == 1 { b"a" } else { b"b" })?;
+    let (table, key) = (table(b"t")?, key(if number == 1 { b"a" } else { b"b" })?);
     Ok(match number {
         1 => LogRec::Touch(TXN, table, key, Mode::Shared),
-        2 => LogRec::Set(TXN, table, key, 0, None, value(alloc, b"5")?),
+        2 => LogRec::Set(TXN, table, key, 0, None, optional_value(alloc, Some(b"5"))?),
         3 => LogRec::Add(TXN, table, key, 2, 2),
         4 => LogRec::Comp(TXN, table, key, 3, 3, Form::Amount(2)),
         5 => LogRec::Comp(TXN, table, key, 4, 2, Form::Image(None)),
         6 => LogRec::Prepared(TXN),
         _ => LogRec::Decide(TXN),
     })
-}
-
-// Whether the transaction has these locks at `t a` and `t b`.
-fn is_locked(locks: &Locks, wanted: (Option<Mode>, Option<Mode>)) -> Result<bool, Fail> {
-    let (t, a) = place(b"a")?;
-    let (_, b) = place(b"b")?;
-    Ok(locks.holds(TXN, &t, &a) == wanted.0 && locks.holds(TXN, &t, &b) == wanted.1)
 }
 
 #[test]
@@ -189,30 +186,28 @@ fn one_log_of_all_kinds(rt: HostRuntime) -> Result<(), Fail> {
         (6, Redone::Marked, (5, None), exclusive),
         (7, Redone::Marked, (5, None), exclusive),
     ];
-    let (t, b) = place(b"b")?;
     let mut replica = new_replica(rt.alloc(), 1);
-    for (number, wanted, (state, bytes), mode) in rows {
+    for (number, wanted, stored, mode) in rows {
         let record = record_of_all(rt.alloc(), number)?;
         let redone = take_next(&rt, rt.alloc(), &mut replica, record)?;
-        assert!(rt; redone == wanted && replica.log.last() == number);
-        assert!(rt; stands(&replica.store, (&t, &b), state, bytes));
-        assert!(rt; is_locked(&replica.locks, (Some(Mode::Shared), mode))?);
+        let stands = stands(&replica, number, stored, (Some(Mode::Shared), mode))?;
+        assert!(rt; redone == wanted && stands, "record {number}");
     }
     let redone = take_next(&rt, rt.alloc(), &mut replica, LogRec::End(TXN, true))?;
-    assert!(rt; redone == Redone::Marked && replica.log.last() == 8);
-    assert!(rt; stands(&replica.store, (&t, &b), 5, None));
-    assert!(rt; is_locked(&replica.locks, (None, None))?);
+    let stands = stands(&replica, 8, (5, None), (None, None))?;
+    assert!(rt; redone == Redone::Marked && stands, "the End");
     Ok(())
 }
 
 #[test]
 fn a_shared_lock_becomes_exclusive_with_the_write(rt: HostRuntime) -> Result<(), Fail> {
     let alloc = rt.alloc();
-    let (t, a) = place(b"a")?;
+    let (t, a) = (table(b"t")?, key(b"a")?);
     let mut replica = new_replica(alloc, 1);
     let touch = LogRec::Touch(TXN, t.copy(), a.copy(), Mode::Shared);
     take_next(&rt, alloc, &mut replica, touch)?;
-    let set = LogRec::Set(TXN, t.copy(), a.copy(), 0, None, value(alloc, b"x")?);
+    let value = optional_value(alloc, Some(b"x"))?;
+    let set = LogRec::Set(TXN, t.copy(), a.copy(), 0, None, value);
     take_next(&rt, alloc, &mut replica, set)?;
     assert_eq!(rt; replica.locks.holds(TXN, &t, &a), Some(Mode::Exclusive));
     Ok(())
@@ -220,9 +215,8 @@ fn a_shared_lock_becomes_exclusive_with_the_write(rt: HostRuntime) -> Result<(),
 
 #[test]
 fn room_is_made_in_both(rt: HostRuntime) -> Result<(), Fail> {
-    let alloc = rt.alloc();
-    let (t, a) = place(b"a")?;
-    let mut replica = new_replica(alloc, 1);
+    let (t, a) = (table(b"t")?, key(b"a")?);
+    let mut replica = new_replica(rt.alloc(), 1);
     reserve(&mut replica.store, &mut replica.log, 1)?;
     assert_eq!(rt; replica.store.get(&t, &a).0, 0);
     replica.store.write(&t, &a, None, 1);
@@ -233,37 +227,43 @@ fn room_is_made_in_both(rt: HostRuntime) -> Result<(), Fail> {
 #[test]
 fn an_amount_that_does_not_fit_leaves_the_value(rt: HostRuntime) -> Result<(), Fail> {
     // The value before, and the amount added or taken back.
-    let rows = [(b"x".as_slice(), 2, false), (b"1", i64::MIN, true)];
-    let (t, b) = place(b"b")?;
-    for (bytes, amount, is_undo) in rows {
+    let rows = [
+        ("to what is no number", b"x".as_slice(), 2, false),
+        ("taken back out of range", b"1", i64::MIN, true),
+    ];
+    for (name, bytes, amount, is_undo) in rows {
         let mut replica = replica_with(&rt, rt.alloc(), bytes, 1)?;
-        let entry = if is_undo {
-            LogRec::Comp(TXN, t.copy(), b.copy(), 1, 1, Form::Amount(amount))
+        let (t, b) = (table(b"t")?, key(b"b")?);
+        let (entry, lock) = if is_undo {
+            (LogRec::Comp(TXN, t, b, 1, 1, Form::Amount(amount)), None)
         } else {
-            LogRec::Add(TXN, t.copy(), b.copy(), 1, amount)
+            (LogRec::Add(TXN, t, b, 1, amount), Some(Mode::Exclusive))
         };
         let redone = take_next(&rt, rt.alloc(), &mut replica, entry)?;
-        assert!(rt; redone == Redone::Applied);
-        assert!(rt; stands(&replica.store, (&t, &b), 8, Some(bytes)));
+        let stands = stands(&replica, 8, (8, Some(bytes)), (None, lock))?;
+        assert!(rt; redone == Redone::Applied && stands, "{name}");
     }
     Ok(())
 }
 
 // Where an allocation fails, the replica is as it was, and takes the record then.
 #[test]
-fn a_want_of_memory_leaves_the_replica(rt: HostRuntime) -> Result<(), Fail> {
-    let (t, b) = place(b"b")?;
+fn a_failed_allocation_leaves_the_replica(rt: HostRuntime) -> Result<(), Fail> {
     let mut replica = new_replica(rt.alloc(), 1);
     take_next(&rt, rt.alloc(), &mut replica, record_of_all(rt.alloc(), 1)?)?;
     let (set, again) = (record_of_all(rt.alloc(), 2)?, record_of_all(rt.alloc(), 2)?);
+    let shared = Some(Mode::Shared);
     if take_next(&rt, rt.alloc(), &mut replica, set).is_err() {
-        assert!(rt; replica.log.last() == 1);
-        assert!(rt; stands(&replica.store, (&t, &b), 0, None));
-        assert!(rt; is_locked(&replica.locks, (Some(Mode::Shared), None))?);
+        assert!(rt; stands(&replica, 1, (0, None), (shared, None))?);
         take_next(&rt, rt.alloc(), &mut replica, again)?;
     }
-    assert!(rt; replica.log.last() == 2);
-    assert!(rt; stands(&replica.store, (&t, &b), 2, Some(b"5")));
-    assert!(rt; is_locked(&replica.locks, (Some(Mode::Shared), Some(Mode::Exclusive)))?);
+    assert!(rt;
+        stands(
+            &replica,
+            2,
+            (2, Some(b"5")),
+            (shared, Some(Mode::Exclusive))
+        )?
+    );
     Ok(())
 }
