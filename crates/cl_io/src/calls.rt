@@ -1,4 +1,4 @@
-//! The calls of an end in memory, of which listed ones fail.
+//! The calls of an end in memory; the listed ones fail.
 ghost use Rattle.std.specs.Prelude.{◌≡◌, ◌≤◌, ◌↔◌, Contains, IsTrue, IsErr, OnOk, OnErr};
 ghost use Rattle.cl_io.specs.Faults as faults;
 ghost use Rattle.cl_io.specs.Memory.{FailsNext, after_call, after_fault};
@@ -24,7 +24,7 @@ impl Model for Calls {
 }
 
 impl Calls {
-    // No call so far.
+    // No calls so far.
     pub(crate) fn new(failing: Vec<u64>) -> Self
         ensures { result ≡ record { failing = failing.items; made = 0; faults = 0 } }
     {
@@ -35,7 +35,7 @@ impl Calls {
         }
     }
 
-    // Counts a call that fails where it is listed.
+    // Counts a call, which fails where it is listed.
     pub(crate) fn begin(&mut self) -> Result<(), Failed>
         ensures failing { IsErr result ↔ FailsNext self.old }
         ensures ok { OnOk result (self.new ≡ after_call self.old) }
@@ -49,7 +49,7 @@ impl Calls {
         Ok(())
     }
 
-    // Counts a fault of the call that was begun last.
+    // Counts a fault of the latest call.
     pub(crate) fn fail(&mut self) -> Failed
         ensures fault { self.new ≡ record self.old { faults = faults.one_more self.old.faults } }
         ensures counted { self.old.faults ≤ self.new.faults }

@@ -1,11 +1,11 @@
-/// Is called round each handling of an actor, outside the turn. Nothing is said of what it does.
+/// A gate is called before and after each handling of an actor, outside its turn. No contract speaks of it.
 ///
 /// An actor is the number of a node, or 16 for the front.
 pub trait Gate {
-    /// An actor begins a handling.
+    /// Called as an actor begins a handling.
     fn enter(&self, actor: u32);
 
-    /// An actor has ended a handling.
+    /// Called once the actor has ended it.
     fn leave(&self, actor: u32);
 }
 

@@ -7,7 +7,7 @@ use crate::{Failed, Sink};
 use std::alloc::Global;
 use std::marker::Model;
 
-/// A sink that keeps what it is given. The calls whose numbers it was given, counted from 1, fail.
+/// A sink that keeps what is written. The calls with the listed numbers, counted from 1, fail.
 ///
 /// Contracts see it as a `SinkState`.
 #[derive(Debug, Drop)]
@@ -25,7 +25,7 @@ impl Model for MemSink {
 }
 
 impl MemSink {
-    /// An empty sink, of whose calls the listed ones fail. It takes no memory.
+    /// An empty sink whose listed calls fail. It allocates nothing.
     pub fn new(alloc: Global, failing: Vec<u64>) -> Self
         ensures given { result.given ≡ [] }
         ensures calls { result.calls ≡ record { failing = failing.items; made = 0; faults = 0 } }
@@ -51,8 +51,9 @@ impl Sink for MemSink {
 
     ghost faults = { λ s. s.calls.faults };
 
-    /// Fails where the number of the call is listed or memory is wanting, and else takes the whole piece.
-    /// A flush is a call too, and takes a number.
+    /// Takes the whole piece. It fails where the number of the call is listed or an allocation fails.
+    ///
+    /// A flush is a call too, with a number of its own.
     fn write(&mut self, piece: &[u8]) -> Result<usize, Failed>
         ensures failing { FailsNext self.old.calls → IsErr result }
         ensures count { IfOk result (λ n. n ≡ length piece.now) }
@@ -68,7 +69,7 @@ impl Sink for MemSink {
         Ok(piece.len())
     }
 
-    /// Fails where the number of the call is listed. There is nothing to bring to its end.
+    /// Fails where the number of the call is listed, and does nothing else.
     fn flush(&mut self) -> Result<(), Failed>
         ensures failing { IsErr result ↔ FailsNext self.old.calls }
         ensures flushed { OnOk result (self.new ≡ record self.old { calls = after_call self.old.calls }) }

@@ -6,13 +6,13 @@ use crate::calls::Calls;
 use crate::{Failed, Source};
 use std::marker::Model;
 
-/// A source of given bytes. The calls whose numbers it was given, counted from 1, fail.
+/// A source of given bytes. The calls with the listed numbers, counted from 1, fail.
 ///
 /// Contracts see it as a `SourceState`.
 #[derive(Debug, Drop)]
 pub struct MemSource {
     bytes: Vec<u8>,
-    place: usize,
+    position: usize,
     calls: Calls,
 }
 
@@ -22,20 +22,20 @@ impl Model for MemSource {
 
     ghost Value = { SourceState };
 
-    ghost view = { λ s. record { rest = drop s.place s.bytes.items; calls = s.calls } };
+    ghost view = { λ s. record { rest = drop s.position s.bytes.items; calls = s.calls } };
 
-    ghost invariant = { λ s. s.place ≤ vec_len s.bytes };
+    ghost invariant = { λ s. s.position ≤ vec_len s.bytes };
 }
 
 impl MemSource {
-    /// A source of these bytes, of whose calls the listed ones fail. It takes no memory.
+    /// A source of these bytes whose listed calls fail. It allocates nothing.
     pub fn new(bytes: Vec<u8>, failing: Vec<u64>) -> Self
         ensures rest { result.rest ≡ bytes.items }
         ensures calls { result.calls ≡ record { failing = failing.items; made = 0; faults = 0 } }
     {
         MemSource {
             bytes,
-            place: 0,
+            position: 0,
             calls: Calls::new(failing),
         }
     }
@@ -46,8 +46,9 @@ impl Source for MemSource {
 
     ghost faults = { λ s. s.calls.faults };
 
-    /// Fails where the number of the call is listed, and else fills as much of the buffer as there
-    /// are bytes. It takes time for the bytes that it gives and the calls that are listed.
+    /// Fills as much of the buffer as there are bytes. It fails where the number of the call is listed.
+    ///
+    /// Its time grows with the bytes that it gives and the calls that are listed.
     fn read(&mut self, buf: &mut [u8]) -> Result<usize, Failed>
         ensures failing { IsErr result ↔ FailsNext self.old.calls }
         ensures count { IfOk result (λ n. n ≡ min (length buf.old) (length self.old.rest)) }
@@ -59,13 +60,13 @@ impl Source for MemSource {
         ensures counted { self.old.calls.faults ≤ self.new.calls.faults }
     {
         self.calls.begin()?;
-        let count = copy_front(&self.bytes[self.place..], buf);
-        self.place += count;
+        let count = copy_front(&self.bytes[self.position..], buf);
+        self.position += count;
         Ok(count)
     }
 }
 
-// Copies as many bytes as both have, and says how many.
+// Copies as many bytes as both have and returns how many.
 fn copy_front(from: &[u8], to: &mut [u8]) -> usize
     ensures count { result ≡ min (length to.old) (length from.now) }
     ensures copied { to.new ≡ take result from.now ++ drop result to.old }

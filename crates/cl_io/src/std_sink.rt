@@ -1,5 +1,5 @@
 //! A writer of std as a sink.
-ghost use Rattle.std.specs.Prelude.{◌≡◌, ◌<◌, ◌≤◌, IfOk, OnOk, OnErr, None, length};
+ghost use Rattle.std.specs.Prelude.{◌≡◌, ◌<◌, ◌≤◌, ◌⊎◌, IfOk, OnOk, OnErr, None, length};
 ghost use Rattle.std.specs.Io.KnownBytes.{Keeps, WriteAppends};
 ghost use Rattle.cl_io.specs.Faults as faults;
 ghost use Rattle.cl_io.specs.Std.{sink_faults, writer};
@@ -8,8 +8,8 @@ use crate::count::one_more;
 use crate::{Failed, Sink};
 use std::io::{Stdout, Write};
 
-/// A writer of std as a sink; standard output, if nothing else is said. It tells no bytes, and keeps
-/// none: what it takes it hands on at once.
+/// A writer of std as a sink: standard output unless another is named. It tells no bytes and holds
+/// none back: it hands on at once what it takes.
 ///
 /// Contracts see its writer and its count of faults.
 #[derive(Debug, Drop)]
@@ -35,16 +35,15 @@ impl<W: Write> Sink for StdSink<W> {
 
     ghost faults = { sink_faults };
 
-    /// One call of the writer's `write`. An error is a fault, and so is that it takes nothing of a
-    /// piece that is not empty.
+    /// One call of the writer's `write`. An error is a fault, and so is taking nothing of a piece that
+    /// is not empty.
     fn write(&mut self, piece: &[u8]) -> Result<usize, Failed>
         ensures within { IfOk result (λ n. n ≤ length piece.now) }
         ensures bytes { WriteAppends (W.contents (writer self.old)) (W.contents (writer self.new)) result piece.now }
         ensures none { IfOk result (λ n. n ≡ 0 → 0 < length piece.now
             → sink_faults self.new ≡ faults.one_more (sink_faults self.old)) }
-        ensures steady { IfOk result (λ n. 0 < n → sink_faults self.new ≡ sink_faults self.old) }
-        ensures empty { OnOk result (length piece.now ≡ 0 → sink_faults self.new ≡ sink_faults self.old) }
-        ensures failed { OnErr result (sink_faults self.new ≡ faults.one_more (sink_faults self.old)) }
+        ensures unfaulted { IfOk result (λ n. (0 < n) ⊎ (length piece.now ≡ 0) → sink_faults self.new ≡ sink_faults self.old) }
+        ensures fault { OnErr result (sink_faults self.new ≡ faults.one_more (sink_faults self.old)) }
         ensures counted { sink_faults self.old ≤ sink_faults self.new }
     {
         let result = self.output.write(piece);
@@ -61,8 +60,8 @@ impl<W: Write> Sink for StdSink<W> {
     /// One call of the writer's `flush`. An error is a fault.
     fn flush(&mut self) -> Result<(), Failed>
         ensures bytes { Keeps (W.contents (writer self.old)) (W.contents (writer self.new)) }
-        ensures steady { OnOk result (sink_faults self.new ≡ sink_faults self.old) }
-        ensures failed { OnErr result (sink_faults self.new ≡ faults.one_more (sink_faults self.old)) }
+        ensures unfaulted { OnOk result (sink_faults self.new ≡ sink_faults self.old) }
+        ensures fault { OnErr result (sink_faults self.new ≡ faults.one_more (sink_faults self.old)) }
         ensures counted { sink_faults self.old ≤ sink_faults self.new }
     {
         match self.output.flush() {

@@ -8,7 +8,7 @@ use crate::count::one_more;
 use crate::{Failed, Source};
 use std::io::{Read, Stdin};
 
-/// A reader of std as a source; standard input, if nothing else is said. It tells no bytes.
+/// A reader of std as a source: standard input unless another is named. It tells no bytes.
 ///
 /// Contracts see its reader and its count of faults.
 #[derive(Debug, Drop)]
@@ -37,8 +37,8 @@ impl<R: Read> Source for StdSource<R> {
         ensures within { IfOk result (λ n. n ≤ length buf.old) }
         ensures size { length buf.new ≡ length buf.old }
         ensures bytes { ReadConsumes (R.remaining (reader self.old)) (R.remaining (reader self.new)) result buf.new }
-        ensures steady { OnOk result (source_faults self.new ≡ source_faults self.old) }
-        ensures failed { OnErr result (source_faults self.new ≡ faults.one_more (source_faults self.old)) }
+        ensures unfaulted { OnOk result (source_faults self.new ≡ source_faults self.old) }
+        ensures fault { OnErr result (source_faults self.new ≡ faults.one_more (source_faults self.old)) }
         ensures counted { source_faults self.old ≤ source_faults self.new }
     {
         match self.input.read(buf) {
