@@ -1,5 +1,6 @@
 -- A line that is read is a command of session 1 that can be answered.
 use Rattle.std.proofs.Common.{◌≡◌, ℕ, ◌+◌, ◌≤◌, List, [], ◌∷◌, ◌++◌, Option, Some, None, Ok, sym, ◌∙◌, ap, subst, arith}
+use Rattle.cl_types.specs.declared.limits.TheConstants.{OPERATIONS_MAX}
 use Rattle.cl_types.specs.declared.operations.Command.{Command}
 use Rattle.cl_types.specs.declared.operations.Command.TheVariants.{Begin, Work, Commit, Abort}
 use Rattle.cl_types.specs.declared.operations.TxnId.{TxnId}
@@ -13,7 +14,7 @@ use Rattle.cl_lines.specs.Line.{line_of}
 use Rattle.cl_lines.specs.Laws.{IsAskable}
 use Rattle.cl_lines.proofs.Spellings.{spells_from_line}
 use Rattle.clustra.specs.Turn.{IsAsked, turn_begun, turn_outcome, turn_values, turn_history, turn_count}
-use Rattle.clustra.specs.Served.{AtMost64, Served}
+use Rattle.clustra.specs.Served.{IsWithinLimit, Served}
 use Rattle.clustra.proofs.Pairs.{with_pair}
 use Rattle.clustra.proofs.Lines.{Served-answered}
 
@@ -31,8 +32,8 @@ IsAsked-read text session command h = asked_from_askable command (spells_from_li
 pub session-read : (text : List ℕ) (session : ℕ) (command : Command) → line_of text ≡ Ok (Client session command) → session ≡ 1
 session-read text session command h = (spells_from_line text session command h).session_is
 
--- at most 64 operations
-pub at_most-count : (count : Option ℕ) → AtMost64 count → (n : ℕ) → count ≡ Some n → n ≤ 64
+-- at most as many operations as are allowed
+pub at_most-count : (count : Option ℕ) → IsWithinLimit count → (n : ℕ) → count ≡ Some n → n ≤ OPERATIONS_MAX
 at_most-count None h n is = absurd (cc)
 at_most-count (Some m) h n is = let same : m ≡ n = cc in omega (arith, h)
 

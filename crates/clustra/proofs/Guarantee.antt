@@ -19,6 +19,7 @@ use Rattle.cl_serial.specs.Serial.{values_after, StandsAt, IsIn, Asks, operation
 use Rattle.cl_serial.proofs.Places.{StandsAt-push, StandsAt-push_last, StandsAt-within, StandsAt-append_left, IsIn-push, IsIn-push_last, IsIn-nil}
 use Rattle.cl_serial.proofs.Replayed.{RepliesAgree-front, RepliesAgree-back}
 use Rattle.clustra.specs.Run.{OpenRepliesAgree}
+use Rattle.clustra.specs.RunEnds.{Explains}
 use Rattle.clustra.specs.Served.{names, GoesOn, EndsCommitted, IsOpen, operations_in, done_by, Together, Served}
 
 length-names : (n : ℕ) → length (names n) ≡ n
@@ -141,8 +142,8 @@ module _ (transcript : List TranscriptEntry) (history : List TxnId) (values : Va
   abbrev all : List Transaction
   all = state.ended ++ option_to_list state.current
 
-  kept : Together state.ended state.current (length transcript) history values begun count
-  kept = h.kept
+  together : Together state.ended state.current (length transcript) history values begun count
+  together = h.together
 
   -- a command of a transaction of any session is one of session 1, by its number
   in_first : (name : TxnId) (exchange : Exchange) → IsIn (commands_of transcript name) exchange → (name.session ≡ 1) × IsIn (commands_in (numbered all name.number)) exchange
@@ -172,18 +173,18 @@ module _ (transcript : List TranscriptEntry) (history : List TxnId) (values : Va
   -- the transaction that goes on has no end's outcome
   current_goes_on : (transaction : Transaction) (exchange : Exchange) → state.current ≡ Some transaction → IsIn transaction.commands exchange → GoesOn exchange
   current_goes_on transaction exchange is_open is_in =
-      let opened : IsOpen (Some transaction) = subst IsOpen is_open kept.is_open in
+      let opened : IsOpen (Some transaction) = subst IsOpen is_open together.is_open in
       all_in GoesOn transaction.commands is_in.0 exchange opened is_in.1
 
   member_at : (i : ℕ) (name : TxnId) → StandsAt history i name → (name ≡ record { session = 1; number = suc i }) × (i < length state.ended)
-  member_at i name at = let P : List TxnId → Type 0 = λ list. StandsAt list i name in names_at (length state.ended) i name (subst P kept.history_is at)
+  member_at i name at = let P : List TxnId → Type 0 = λ list. StandsAt list i name in names_at (length state.ended) i name (subst P together.history_is at)
 
   member_here : (k : ℕ) → k < length state.ended → IsIn history (record { session = 1; number = suc k })
-  member_here k below = let P : List TxnId → Type 0 = λ list. StandsAt list k (record { session = 1; number = suc k }) in (k, subst P (sym kept.history_is) (names_here (length state.ended) k below))
+  member_here k below = let P : List TxnId → Type 0 = λ list. StandsAt list k (record { session = 1; number = suc k }) in (k, subst P (sym together.history_is) (names_here (length state.ended) k below))
 
   -- how an ended transaction ended
   ends_at : (k : ℕ) (transaction : Transaction) → StandsAt state.ended k transaction → EndsCommitted transaction
-  ends_at k transaction at = all_in EndsCommitted state.ended k transaction kept.ended_committed at
+  ends_at k transaction at = all_in EndsCommitted state.ended k transaction together.ended_committed at
 
   distinct : (i j : ℕ) (name : TxnId) → StandsAt history i name → StandsAt history j name → i ≡ j
   distinct i j name at at' =
@@ -240,7 +241,7 @@ module _ (transcript : List TranscriptEntry) (history : List TxnId) (values : Va
   -- the members' operations are those of the ended transactions
   members_did : operations_of transcript history ≡ done_by state.ended
   members_did =
-      ap (operations_of transcript) kept.history_is
+      ap (operations_of transcript) together.history_is
       ∙ same_operations (length state.ended)
       ∙ operations_of_names state.ended (option_to_list state.current) (length state.ended) (omega arith)
       ∙ ap done_by (take_all (length state.ended) state.ended (omega arith))
@@ -255,7 +256,7 @@ module _ (transcript : List TranscriptEntry) (history : List TxnId) (values : Va
 
   -- all replies, those of the transaction that goes on behind those of the others
   all_replies : RepliesAgree no_values (done_by state.ended ++ done_by (option_to_list state.current))
-  all_replies = let P : List Operation → Type 0 = λ list. RepliesAgree no_values list in subst P (flat_map-append operations_in state.ended (option_to_list state.current)) kept.replies
+  all_replies = let P : List Operation → Type 0 = λ list. RepliesAgree no_values list in subst P (flat_map-append operations_in state.ended (option_to_list state.current)) together.replies
 
   replies : RepliesAgree no_values (operations_of transcript history)
   replies =
@@ -296,8 +297,8 @@ module _ (transcript : List TranscriptEntry) (history : List TxnId) (values : Va
       let Q : TxnId → Type 0 = λ name. Rattle.cl_serial.specs.Transactions.transaction_of transcript name ≡ Some begins.0 in
       let mine = commands_there (slice_get all i) answered.0 (subst P first.0 answered.1) in
       let other : StandsAt all j begins.0 = subst Q second.0 begins.1 in
-      let rising : j ≤ i → begins.0.begin ≤ mine.0.begin = kept.in_order.rising j i begins.0 mine.0 other mine.1 in
-      let after : mine.0.begin < committed = kept.in_order.answered_after i mine.0 answered.0 Committed committed mine.1 mine.2 answered.2 in
+      let rising : j ≤ i → begins.0.begin ≤ mine.0.begin = together.in_order.rising j i begins.0 mine.0 other mine.1 in
+      let after : mine.0.begin < committed = together.in_order.answered_after i mine.0 answered.0 Committed committed mine.1 mine.2 answered.2 in
       let there : begins.0.begin ≡ began = begins.2 in
       elim (cases_lt i j) [ inl below ↦ below | inr past ↦ absurd (omega (arith, rising past)) ]
 
@@ -311,4 +312,13 @@ module _ (transcript : List TranscriptEntry) (history : List TxnId) (values : Va
     answers_fit_turns = h.fit_turns;
     refusals_true = h.refused;
     refusals_once = ([], h.refused_once ∙ sym (append-nil (refusals transcript)));
+  }
+
+  -- all that is kept
+  pub Explains-served : Explains transcript history
+  Explains-served = record {
+    serializable = Serializable-served;
+    open_replies = OpenRepliesAgree-served;
+    unaborted = h.unaborted;
+    answered = h.every_line;
   }

@@ -8,16 +8,17 @@ use Rattle.cl_io.proofs.ToldLemmas.{prepend_known-more}
 use Rattle.cl_serial.specs.Bytes.{whole_lines}
 use Rattle.cl_serial.proofs.LineLemmas.{newlines, one_if, length-whole_lines_append}
 use Rattle.clustra.specs.Input.{IsTooMuch, LastPieceIsTooMuch}
-use Rattle.clustra.specs.Reading.{ReadsBytes, EndsReading, AddsPiece}
+use Rattle.clustra.specs.Reading.{ReadsToEnd, EndsReading, AddsPiece}
+use Rattle.clustra.specs.declared.limits.TheConstants.{LINES_MAX, BYTES_MAX, PIECE_MAX}
 use Rattle.clustra.specs.declared.input.InputFault.{InputFault}
 use Rattle.clustra.specs.declared.input.InputFault.TheVariants.{Read, TooMuch, NoMemory}
 
-pub within : (bytes : List ℕ) → length (whole_lines bytes) ≤ 100000 → length bytes ≤ 25700000 → IsTooMuch bytes → ⊥
+pub within : (bytes : List ℕ) → length (whole_lines bytes) ≤ LINES_MAX → length bytes ≤ BYTES_MAX → IsTooMuch bytes → ⊥
 within bytes few_lines few_bytes (inl many) = omega (arith, few_lines, many)
 within bytes few_lines few_bytes (inr many) = omega (arith, few_bytes, many)
 
-pub few_bytes_of : (bytes : List ℕ) → (IsTooMuch bytes → ⊥) → length bytes ≤ 25700000
-few_bytes_of bytes fits = elim (cases_lt 25700000 (length bytes)) [ inl many ↦ absurd (fits (inr many)) | inr few ↦ few ]
+pub few_bytes_of : (bytes : List ℕ) → (IsTooMuch bytes → ⊥) → length bytes ≤ BYTES_MAX
+few_bytes_of bytes fits = elim (cases_lt BYTES_MAX (length bytes)) [ inl many ↦ absurd (fits (inr many)) | inr few ↦ few ]
 
 -- how many lines have begun, so many newlines having come before the piece
 abbrev pub begun_with : ℕ → List ℕ → ℕ
@@ -49,7 +50,7 @@ ReadSoFar-more start now next count count' bytes piece grown done h more adds co
 }
 
 -- a piece that made it too much was the last
-LastPieceIsTooMuch-add : (bytes piece : List ℕ) → (IsTooMuch bytes → ⊥) → 0 < length piece → length piece ≤ 65536 → LastPieceIsTooMuch (bytes ++ piece)
+LastPieceIsTooMuch-add : (bytes piece : List ℕ) → (IsTooMuch bytes → ⊥) → 0 < length piece → length piece ≤ PIECE_MAX → LastPieceIsTooMuch (bytes ++ piece)
 LastPieceIsTooMuch-add bytes piece fits some small =
     let e = length-append bytes piece in
     let P : List ℕ → Type 0 = λ list. IsTooMuch list → ⊥ in
@@ -61,13 +62,15 @@ LastPieceIsTooMuch-add bytes piece fits some small =
     }
 
 -- the piece could not be added
-pub ReadsBytes-refused : {V : Type 0} (view : V → List ℕ) (start now next : Option (List ℕ)) (count : ℕ) (bytes piece grown : List ℕ) (fault : InputFault) → ReadSoFar start now count bytes → now ≡ prepend_known piece next →
-    AddsPiece bytes piece grown (Err fault) → length bytes + length piece ≤ 25700001 → 0 < length piece → length piece ≤ 65536 → ReadsBytes view start next (Err fault)
-ReadsBytes-refused view start now next count bytes piece grown fault h more adds short some small = record {
+pub ReadsToEnd-refused : {V : Type 0} (view : V → List ℕ) (start now next : Option (List ℕ)) (count : ℕ) (bytes piece grown : List ℕ) (fault : InputFault) → ReadSoFar start now count bytes → now ≡ prepend_known piece next →
+    AddsPiece bytes piece grown (Err fault) → length bytes + length piece ≤ BYTES_MAX + 1 → 0 < length piece → length piece ≤ PIECE_MAX → ReadsToEnd view start next (Err fault)
+ReadsToEnd-refused view start now next count bytes piece grown fault h more adds short some small = record {
   read = bytes ++ piece;
-  taken = prepend_known-more start now next bytes piece h.taken more;
-  within = let e = length-append bytes piece in omega (arith, e, short);
-  stops = λ many. LastPieceIsTooMuch-add bytes piece h.fits some small;
+  bytes = record {
+    taken = prepend_known-more start now next bytes piece h.taken more;
+    within = let e = length-append bytes piece in omega (arith, e, short);
+    stops = λ many. LastPieceIsTooMuch-add bytes piece h.fits some small;
+  };
   ends = by_fault fault adds;
 }
   where
@@ -83,33 +86,39 @@ not_read bytes piece grown TooMuch P adds is = absurd (cc)
 not_read bytes piece grown NoMemory P adds is = absurd (cc)
 
 -- a read that failed
-pub ReadsBytes-fault : {V : Type 0} (view : V → List ℕ) (start now next : Option (List ℕ)) (count : ℕ) (bytes : List ℕ) → ReadSoFar start now count bytes → next ≡ now → ReadsBytes view start next (Err Read)
-ReadsBytes-fault view start now next count bytes h same = record {
+pub ReadsToEnd-fault : {V : Type 0} (view : V → List ℕ) (start now next : Option (List ℕ)) (count : ℕ) (bytes : List ℕ) → ReadSoFar start now count bytes → next ≡ now → ReadsToEnd view start next (Err Read)
+ReadsToEnd-fault view start now next count bytes h same = record {
   read = bytes;
-  taken = h.taken ∙ ap (prepend_known bytes) (sym same);
-  within = omega (arith, few_bytes_of bytes h.fits);
-  stops = λ many. absurd (h.fits many);
+  bytes = record {
+    taken = h.taken ∙ ap (prepend_known bytes) (sym same);
+    within = omega (arith, few_bytes_of bytes h.fits);
+    stops = λ many. absurd (h.fits many);
+  };
   ends = h.fits;
 }
 
 -- the end
-pub ReadsBytes-end : {V : Type 0} (view : V → List ℕ) (start now next : Option (List ℕ)) (count : ℕ) (bytes none : List ℕ) (all : V) → ReadSoFar start now count bytes → now ≡ prepend_known none next → none ≡ [] →
-    view all ≡ bytes → ReadsBytes view start next (Ok all)
-ReadsBytes-end view start now next count bytes none all h more is_none viewed = record {
+pub ReadsToEnd-end : {V : Type 0} (view : V → List ℕ) (start now next : Option (List ℕ)) (count : ℕ) (bytes none : List ℕ) (all : V) → ReadSoFar start now count bytes → now ≡ prepend_known none next → none ≡ [] →
+    view all ≡ bytes → ReadsToEnd view start next (Ok all)
+ReadsToEnd-end view start now next count bytes none all h more is_none viewed = record {
   read = bytes;
-  taken = h.taken ∙ ap (prepend_known bytes) (more ∙ ap (λ list. prepend_known list next) is_none ∙ prepend_known-nil next);
-  within = omega (arith, few_bytes_of bytes h.fits);
-  stops = λ many. absurd (h.fits many);
+  bytes = record {
+    taken = h.taken ∙ ap (prepend_known bytes) (more ∙ ap (λ list. prepend_known list next) is_none ∙ prepend_known-nil next);
+    within = omega (arith, few_bytes_of bytes h.fits);
+    stops = λ many. absurd (h.fits many);
+  };
   ends = (viewed, h.fits);
 }
 
 -- nothing was read
-pub ReadsBytes-nothing : {V : Type 0} (view : V → List ℕ) (start : Option (List ℕ)) → ReadsBytes view start start (Err NoMemory)
+pub ReadsToEnd-nothing : {V : Type 0} (view : V → List ℕ) (start : Option (List ℕ)) → ReadsToEnd view start start (Err NoMemory)
 unfolding whole_lines
-ReadsBytes-nothing view start = record {
+ReadsToEnd-nothing view start = record {
   read = [];
-  taken = sym (prepend_known-nil start);
-  within = omega arith;
-  stops = λ many. absurd (within [] (omega arith) (omega arith) many);
+  bytes = record {
+    taken = sym (prepend_known-nil start);
+    within = omega arith;
+    stops = λ many. absurd (within [] (omega arith) (omega arith) many);
+  };
   ends = within [] (omega arith) (omega arith);
 }

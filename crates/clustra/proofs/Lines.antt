@@ -32,7 +32,7 @@ Served-start values empty = record {
   paired = refl;
   unasked = λ session other. refl;
   unanswered = λ session other. refl;
-  kept = record {
+  together = record {
     history_is = refl;
     begun_is = refl;
     count_is = refl;
@@ -77,12 +77,12 @@ Served-answered transcript number text command outcome history values after begu
       paired = paired-longer transcript number text command outcome reads h.paired;
       unasked = λ session other. questions-others transcript number text command outcome reads session other ∙ h.unasked session other;
       unanswered = λ session other. answers-others transcript number text command outcome reads session other ∙ h.unanswered session other;
-      kept = subst P (sym new) (subst Q (sym (length-with_pair transcript number text (Answer 1 outcome)))
-          (subst R (sym outcome_is) (Together-turn state.ended state.current command (length transcript) history values after begun count asked changed h.kept)));
-      for_members = CommittedForMembers-longer transcript number text command outcome reads history values begun count h.paired h.kept outcome_is h.for_members;
+      together = subst P (sym new) (subst Q (sym (length-with_pair transcript number text (Answer 1 outcome)))
+          (subst R (sym outcome_is) (Together-turn state.ended state.current command (length transcript) history values after begun count asked changed h.together)));
+      for_members = CommittedForMembers-longer transcript number text command outcome reads history values begun count h.paired h.together outcome_is h.for_members;
       follow = AnswersFollow-longer transcript number text command outcome reads h.follow h.paired;
       fit_turns = AnswersFitTurns-longer transcript number text command outcome reads h.fit_turns h.paired
-          (subst G (sym outcome_is) (subst F (sym h.kept.count_is) (FitsTurn-turn state.ended state.current command values asked)));
+          (subst G (sym outcome_is) (subst F (sym h.together.count_is) (FitsTurn-turn state.ended state.current command values asked)));
       refused = RefusalsTrue-longer transcript number text command outcome reads h.refused;
       refused_once = faulty_lines-with_pair transcript number text (Answer 1 outcome)
           ∙ ap (λ fault. faulty_lines transcript ++ numbered_fault number fault) well ∙ append-nil (faulty_lines transcript)

@@ -2,6 +2,7 @@
 use Rattle.std.proofs.Common.{◌≡◌, ℕ, suc, ◌+◌, Bool, true, false, List, [], ◌∷◌, ◌++◌, length, Option, Some, None, refl, sym, ◌∙◌, ap, subst, arith, nat_eq, if◌then◌else◌}
 use Rattle.std.specs.Option.{option_to_list}
 use Rattle.std.proofs.lemmas.List.{append-nil}
+use Rattle.cl_types.specs.declared.limits.TheConstants.{OPERATIONS_MAX}
 use Rattle.cl_types.specs.declared.operations.Command.{Command}
 use Rattle.cl_types.specs.declared.operations.Command.TheVariants.{Begin, Work, Commit, Abort}
 use Rattle.cl_types.specs.declared.operations.TxnId.{TxnId}
@@ -38,7 +39,7 @@ committed_is_commit None (Work table key op) values h = absurd (cc)
 committed_is_commit None Commit values h = absurd (cc)
 committed_is_commit None Abort values h = absurd (cc)
 committed_is_commit (Some transaction) Begin values h = absurd (cc)
-committed_is_commit (Some transaction) (Work table key op) values h = absurd (work_not_committed (nat_eq (length (operations transaction.commands)) 64) _ h)
+committed_is_commit (Some transaction) (Work table key op) values h = absurd (work_not_committed (nat_eq (length (operations transaction.commands)) OPERATIONS_MAX) _ h)
 committed_is_commit (Some transaction) Commit values h = commits transaction refl refl
 committed_is_commit (Some transaction) Abort values h = absurd (cc)
 
@@ -78,7 +79,7 @@ last_in_history count command begun history n is_open is_commit =
 
 module _ (transcript : List TranscriptEntry) (number : ℕ) (text : List ℕ) (command : Command) (outcome : Outcome) (reads : client_of text ≡ Some (1, command))
     (history : List TxnId) (values : Values) (begun : ℕ) (count : Option ℕ) (paired : length (questions 1 transcript) ≡ length (answers 1 transcript))
-    (kept : Together (session_state 1 transcript).ended (session_state 1 transcript).current (length transcript) history values begun count)
+    (together : Together (session_state 1 transcript).ended (session_state 1 transcript).current (length transcript) history values begun count)
     (outcome_is : outcome ≡ turn_outcome count command values) where
   abbrev longer : List TranscriptEntry
   longer = with_pair transcript number text (Answer 1 outcome)
@@ -88,9 +89,9 @@ module _ (transcript : List TranscriptEntry) (number : ℕ) (text : List ℕ) (c
   the_new_one position at is_committed (commits transaction is_open is_commit) =
       let P : Session → Type 0 = λ session. IsIn (commands_in (numbered (all_of session) begun)) (exchange_at (length transcript) command outcome) in
       let more : length (option_to_list (session_state 1 transcript).current) ≡ 1 = ap (λ (c : Option Transaction). length (option_to_list c)) is_open in
-      let n : begun ≡ suc (length (session_state 1 transcript).ended) = omega (arith, kept.begun_is, more) in (
+      let n : begun ≡ suc (length (session_state 1 transcript).ended) = omega (arith, together.begun_is, more) in (
         begun,
-        last_in_history count command begun history (length (operations transaction.commands)) (kept.count_is ∙ ap count_in is_open) is_commit,
+        last_in_history count command begun history (length (operations transaction.commands)) (together.count_is ∙ ap count_in is_open) is_commit,
         (
           exchange_at (length transcript) command outcome,
           subst P (sym (session_state-first transcript number text command outcome reads paired))
@@ -114,7 +115,7 @@ module _ (transcript : List TranscriptEntry) (number : ℕ) (text : List ℕ) (c
       let P : ℕ → Type 0 = λ s. (n : ℕ) × IsIn (turn_history count command begun history) (record { session = s; number = n }) × IsAnswered longer (record { session = s; number = n }) Committed position in
       let Q : Option ℕ → Type 0 = λ c. turn_outcome c command values ≡ Committed in
       subst P (sym first) (the_new_one position at (sym committed)
-      (committed_is_commit (session_state 1 transcript).current command values (subst Q kept.count_is (sym outcome_is ∙ sym committed))))
+      (committed_is_commit (session_state 1 transcript).current command values (subst Q together.count_is (sym outcome_is ∙ sym committed))))
 
   pub CommittedForMembers-longer : CommittedForMembers transcript history → CommittedForMembers longer (turn_history count command begun history)
   CommittedForMembers-longer members session position h = committed_for members session position (standing transcript number text (Answer 1 outcome) position (written (Answer session Committed)) h)

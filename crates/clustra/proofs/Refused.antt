@@ -71,8 +71,8 @@ module _ (transcript : List TranscriptEntry) (number : ℕ) (text : List ℕ) (f
         paired = ap length (same_questions 1) ∙ h.paired ∙ sym (ap length (same_answers 1));
         unasked = λ session other. same_questions session ∙ h.unasked session other;
         unanswered = λ session other. same_answers session ∙ h.unanswered session other;
-        kept = subst P (sym (session_state-same longer transcript 1 (same_questions 1) (same_answers 1))) (subst Q (sym (length-with_pair transcript number text (BadLine number fault)))
-            (Together-idle (session_state 1 transcript).ended (session_state 1 transcript).current (length transcript) history values after begun count same h.kept));
+        together = subst P (sym (session_state-same longer transcript 1 (same_questions 1) (same_answers 1))) (subst Q (sym (length-with_pair transcript number text (BadLine number fault)))
+            (Together-idle (session_state 1 transcript).ended (session_state 1 transcript).current (length transcript) history values after begun count same h.together));
         for_members = λ session position at. members_before history h.for_members session position (standing transcript number text (BadLine number fault) position (written (Answer session Committed)) at);
         follow = λ session. follow-same longer transcript session (same_questions session) (same_answers session) h.follow;
         fit_turns = λ session. fit-same longer transcript session (same_questions session) (same_answers session) h.fit_turns;

@@ -2,6 +2,7 @@
 use Rattle.std.proofs.Common.{◌≡◌, ◌≢◌, ℕ, ◌+◌, Bool, true, false, List, length, Option, Some, None, refl, sym, ◌∙◌, ap, subst, arith, nat_eq, if◌then◌else◌}
 use Rattle.std.proofs.lemmas.Bool.{eqb-false, eqb-true}
 use Rattle.std.specs.Option.{unwrap_or}
+use Rattle.cl_types.specs.declared.limits.TheConstants.{OPERATIONS_MAX}
 use Rattle.cl_types.specs.declared.operations.Command.{Command}
 use Rattle.cl_types.specs.declared.operations.Command.TheVariants.{Begin, Work, Commit, Abort}
 use Rattle.cl_types.specs.declared.operations.Op.{Op}
@@ -28,12 +29,12 @@ work_turn : (is_full : Bool) (ended : List Transaction) (current : Transaction) 
     let outcome : Outcome = if is_full then Full else Done (plain_reply op (values place)) in
     let new : Session = next ended (Some current) size (Work table key op) outcome in
     let changed : Values = if is_full then values else updated values place (plain_value op (values place)) in
-    ((other : Place) → after other ≡ changed other) → nat_eq n 64 ≡ is_full → Together ended (Some current) size history values begun (Some n) →
+    ((other : Place) → after other ≡ changed other) → nat_eq n OPERATIONS_MAX ≡ is_full → Together ended (Some current) size history values begun (Some n) →
     Together new.ended new.current (size + 2) history after begun (if is_full then Some n else Some (n + 1))
 unfolding session_step
 work_turn true ended current size history values after begun count table key op same is h = Together-idle ended (Some current) size history values after begun (Some (length (operations current.commands))) same h
 work_turn false ended current size history values after begun count table key op changed is h =
-    let differ : length (operations current.commands) ≢ 64 = eqb-false (length (operations current.commands)) 64 is in
+    let differ : length (operations current.commands) ≢ OPERATIONS_MAX = eqb-false (length (operations current.commands)) OPERATIONS_MAX is in
     Together-worked ended current size history values after begun (Some (length (operations current.commands))) table key op changed (omega (arith, differ, h.at_most)) h
 
 -- one more command and its outcome
@@ -49,7 +50,7 @@ kept_turn ended None Commit size history values after begun asked same h = Toget
 kept_turn ended None Abort size history values after begun asked same h = absurd asked
 kept_turn ended (Some current) Begin size history values after begun asked same h = Together-idle ended (Some current) size history values after begun (Some (length (operations current.commands))) same h
 kept_turn ended (Some current) (Work table key op) size history values after begun asked same h =
-    work_turn (nat_eq (length (operations current.commands)) 64) ended current size history values after begun None table key op same refl h
+    work_turn (nat_eq (length (operations current.commands)) OPERATIONS_MAX) ended current size history values after begun None table key op same refl h
 kept_turn ended (Some current) Commit size history values after begun asked same h = Together-committed ended current size history values after begun (Some (length (operations current.commands))) same h
 kept_turn ended (Some current) Abort size history values after begun asked same h = absurd asked
 
@@ -65,7 +66,7 @@ Together-turn ended current command size history values after begun count asked 
     subst P (sym h.count_is) (kept_turn ended current command size history values after begun asked) same h
 
 -- the operation's outcome, by whether the transaction is full
-work_fits : (is_full : Bool) (ended : List Transaction) (current : Transaction) (table key : List ℕ) (op : Op) (values : Values) → nat_eq (length (operations current.commands)) 64 ≡ is_full →
+work_fits : (is_full : Bool) (ended : List Transaction) (current : Transaction) (table key : List ℕ) (op : Op) (values : Values) → nat_eq (length (operations current.commands)) OPERATIONS_MAX ≡ is_full →
     FitsTurn (record { ended = ended; current = Some current }) (Work table key op) (if is_full then Full else Done (plain_reply op (values ((table, key)))))
 work_fits true ended current table key op values is = record {
   not_txn = (λ h. absurd (cc), λ h. absurd (let e : Some current ≡ None = h.0 in cc));
@@ -131,7 +132,7 @@ FitsTurn-turn ended (Some current) Begin values asked = record {
   committed = λ h. absurd (cc);
   aborted = λ cause h. absurd (cc);
 }
-FitsTurn-turn ended (Some current) (Work table key op) values asked = work_fits (nat_eq (length (operations current.commands)) 64) ended current table key op values refl
+FitsTurn-turn ended (Some current) (Work table key op) values asked = work_fits (nat_eq (length (operations current.commands)) OPERATIONS_MAX) ended current table key op values refl
 FitsTurn-turn ended (Some current) Commit values asked = record {
   not_txn = (λ h. absurd (cc), λ h. absurd (let e : Some current ≡ None = h.0 in cc));
   in_txn = (λ h. absurd (cc), λ h. absurd (let e : Commit ≡ Begin = h.1 in cc));

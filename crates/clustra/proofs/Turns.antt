@@ -3,6 +3,7 @@ use Rattle.std.proofs.Common.{◌≡◌, ℕ, suc, ◌+◌, ◌<◌, List, [], �
 use Rattle.std.specs.List.{AllByRecursion}
 use Rattle.std.proofs.lemmas.List.{append-nil, length-append}
 use Rattle.std.proofs.lemmas.Grind.{flat_map-append}
+use Rattle.cl_types.specs.declared.limits.TheConstants.{OPERATIONS_MAX}
 use Rattle.cl_types.specs.declared.operations.Command.{Command}
 use Rattle.cl_types.specs.declared.operations.Command.TheVariants.{Work, Commit}
 use Rattle.cl_types.specs.declared.operations.Op.{Op}
@@ -80,7 +81,7 @@ updated_agree a b place op other here there =
 pub Together-worked : (ended : List Transaction) (current : Transaction) (size : ℕ) (history : List TxnId) (values after : Values) (begun : ℕ) (count : Option ℕ) (table key : List ℕ) (op : Op) →
     let place : Place = (table, key) in
     let outcome : Outcome = Done (plain_reply op (values place)) in
-    ((other : Place) → after other ≡ updated values place (plain_value op (values place)) other) → length (operations current.commands) < 64 → Together ended (Some current) size history values begun count →
+    ((other : Place) → after other ≡ updated values place (plain_value op (values place)) other) → length (operations current.commands) < OPERATIONS_MAX → Together ended (Some current) size history values begun count →
     Together ended (Some (with_command current (exchange_at size (Work table key op) outcome))) (size + 2) history after begun (Some (length (operations current.commands) + 1))
 Together-worked ended current size history values after begun count table key op changed room h =
     let place : Place = (table, key) in

@@ -1,5 +1,6 @@
 -- No turn and no refusal aborts a transaction.
 use Rattle.std.proofs.Common.{◌≡◌, ℕ, Bool, true, false, List, Option, Some, None, nat_eq, sym, ◌∙◌, if◌then◌else◌}
+use Rattle.cl_types.specs.declared.limits.TheConstants.{OPERATIONS_MAX}
 use Rattle.cl_types.specs.declared.operations.Command.{Command}
 use Rattle.cl_types.specs.declared.operations.Command.TheVariants.{Begin, Work, Commit, Abort}
 use Rattle.cl_types.specs.declared.answers.Reply.{Reply}
@@ -27,7 +28,7 @@ turn_goes_on None (Work table key op) values cause h = absurd (cc)
 turn_goes_on None Commit values cause h = absurd (cc)
 turn_goes_on None Abort values cause h = absurd (cc)
 turn_goes_on (Some count) Begin values cause h = absurd (cc)
-turn_goes_on (Some count) (Work table key op) values cause h = work_goes_on (nat_eq count 64) (plain_reply op (values (table, key))) cause h
+turn_goes_on (Some count) (Work table key op) values cause h = work_goes_on (nat_eq count OPERATIONS_MAX) (plain_reply op (values (table, key))) cause h
 turn_goes_on (Some count) Commit values cause h = absurd (cc)
 turn_goes_on (Some count) Abort values cause h = absurd (cc)
 

@@ -1,7 +1,6 @@
--- How the input is read, piece by piece, and how that ends. No public clause cites this module.
-use Rattle.std.specs.Prelude.{◌≡◌, ℕ, ◌≤◌, List, ◌++◌, length, Option, Result, Ok, Err}
-use Rattle.std.specs.Io.KnownBytes.{prepend_known}
-use Rattle.clustra.specs.Input.{IsTooMuch, LastPieceIsTooMuch}
+-- How reading the input ends, piece by piece. No public clause cites this module.
+use Rattle.std.specs.Prelude.{◌≡◌, ℕ, List, ◌++◌, Option, Result, Ok, Err}
+use Rattle.clustra.specs.Input.{IsTooMuch, ReadsBytes}
 use Rattle.clustra.specs.declared.input.InputFault.{InputFault}
 use Rattle.clustra.specs.declared.input.InputFault.TheVariants.{Read, TooMuch, NoMemory}
 
@@ -12,17 +11,13 @@ EndsReading view (Err Read) read = IsTooMuch read → ⊥
 EndsReading view (Err TooMuch) read = IsTooMuch read
 EndsReading view (Err NoMemory) read = IsTooMuch read → ⊥
 
--- these bytes were read, and reading ended so
-pub record ReadsBytes {V : Type 0} (view : V → List ℕ) (before after : Option (List ℕ)) (result : Result V InputFault) : Type 0 where
+-- some bytes were read, and reading ended so
+pub record ReadsToEnd {V : Type 0} (view : V → List ℕ) (before after : Option (List ℕ)) (result : Result V InputFault) : Type 0 where
   pub read : List ℕ
-  pub taken : before ≡ prepend_known read after
-  -- no further than one byte past the limit
-  pub within : length read ≤ 25700001
-  -- and no further than the piece that makes it too much
-  pub stops : IsTooMuch read → LastPieceIsTooMuch read
+  pub bytes : ReadsBytes before after read
   pub ends : EndsReading view result read
 
--- the piece was added, or there is too much with it, or no room for it
+-- the piece was added, or there is too much with it, or an allocation failed
 abbrev pub AddsPiece : List ℕ → List ℕ → List ℕ → Result (Unit {0}) InputFault → Type 0
 AddsPiece old piece new (Ok done) = (new ≡ old ++ piece) × (IsTooMuch (old ++ piece) → ⊥)
 AddsPiece old piece new (Err Read) = ⊥

@@ -1,6 +1,6 @@
 -- What a run of the server is: what it read, fed and wrote, and how it ended.
-use Rattle.std.specs.Prelude.{◌≡◌, ℕ, ◌≤◌, ◌⊎◌, ◌↔◌, List, [], ◌∷◌, length, take, codes, Option}
-use Rattle.std.specs.Io.KnownBytes.{prepend_known, append_known}
+use Rattle.std.specs.Prelude.{◌≡◌, ℕ, ◌⊎◌, ◌↔◌, List, [], ◌∷◌, take, codes, Option}
+use Rattle.std.specs.Io.KnownBytes.{append_known}
 use Rattle.cl_types.specs.declared.operations.TxnId.{TxnId}
 use Rattle.cl_types.specs.declared.answers.AbortCause.{AbortCause}
 use Rattle.cl_types.specs.declared.answers.Outcome.TheVariants.{Aborted}
@@ -10,27 +10,24 @@ use Rattle.cl_serial.specs.Transactions.{session_state, commands_in}
 use Rattle.cl_serial.specs.PlainMap.{operations, RepliesAgree}
 use Rattle.cl_serial.specs.Serial.{StandsAt, values_after}
 use Rattle.cl_serial.specs.Bytes.{lines_of, FeedsFirstLines}
-use Rattle.clustra.specs.Input.{IsTooMuch, LastPieceIsTooMuch}
+use Rattle.clustra.specs.Input.{IsTooMuch, ReadsBytes}
+use Rattle.clustra.specs.declared.ended.TheConstants.{DONE, USAGE, READ_FAULT, WRITE_FAULT, TOO_MUCH_INPUT, NO_MEMORY}
 
 -- the words are the one word serve
 abbrev pub AreServe : List (List ℕ) → Type 0
 AreServe words = words ≡ codes "serve" ∷ []
 
--- where the source tells nothing, these bytes are not determined; where it tells its bytes, they are those that it gave
+-- what was read, and which of its lines were fed
 pub record ReadsInput (status : ℕ) (before after : Option (List ℕ)) (transcript : List TranscriptEntry) : Type 0 where
   -- the bytes that were read
   pub read : List ℕ
-  pub taken : before ≡ prepend_known read after
-  -- no further than one byte past the limit
-  pub within : length read ≤ 25700001
-  -- and no further than the piece that makes it too much
-  pub stops : IsTooMuch read → LastPieceIsTooMuch read
+  pub bytes : ReadsBytes before after read
   -- the lines that were fed are the first lines of these bytes
   pub first_lines : FeedsFirstLines transcript read
   -- and all of them where the run is done
-  pub all_lines : status ≡ 0 → fed_lines transcript ≡ lines_of read
+  pub all_lines : status ≡ DONE → fed_lines transcript ≡ lines_of read
   -- the run is stopped for its input exactly where it is too much
-  pub too_much : (status ≡ 5) ↔ IsTooMuch read
+  pub too_much : (status ≡ TOO_MUCH_INPUT) ↔ IsTooMuch read
 
 -- the operations of the transaction that a session is still in have the replies that this map gives
 abbrev pub OpenRepliesAgree : List TranscriptEntry → List TxnId → Type 0
@@ -50,6 +47,11 @@ pub record WritesText (before after : Option (List ℕ)) (text : List ℕ) : Typ
 abbrev pub WritesAll : Option (List ℕ) → Option (List ℕ) → List ℕ → Type 0
 WritesAll before after text = after ≡ append_known before text
 
--- the status of a run that began: done, a read that failed, a write that failed, too much input, want of memory
+-- the status of a run that began: done, a read that failed, a write that failed, too much input, a failed allocation
 abbrev pub IsEndStatus : ℕ → Type 0
-IsEndStatus status = (status ≡ 0) ⊎ ((status ≡ 3) ⊎ ((status ≡ 4) ⊎ ((status ≡ 5) ⊎ (status ≡ 6))))
+IsEndStatus status =
+    (status ≡ DONE) ⊎ ((status ≡ READ_FAULT) ⊎ ((status ≡ WRITE_FAULT) ⊎ ((status ≡ TOO_MUCH_INPUT) ⊎ (status ≡ NO_MEMORY))))
+
+-- a status of the program
+abbrev pub IsStatus : ℕ → Type 0
+IsStatus status = (status ≡ USAGE) ⊎ IsEndStatus status

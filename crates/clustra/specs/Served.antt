@@ -10,6 +10,7 @@ use Rattle.cl_serial.specs.Transcript.{TranscriptEntry, questions, answers, faul
 use Rattle.cl_serial.specs.Exchanges.{Exchange, outcome_of}
 use Rattle.cl_serial.specs.Transactions.{Transaction, session_state, is_end}
 use Rattle.cl_types.specs.Places.{Place}
+use Rattle.cl_types.specs.declared.limits.TheConstants.{OPERATIONS_MAX}
 use Rattle.cl_serial.specs.PlainMap.{Values, Operation, operations, no_values, after_operations, RepliesAgree}
 use Rattle.clustra.specs.Run.{NeverAborts}
 use Rattle.cl_serial.specs.Serial.{StandsAt, IsIn, CommittedForMembers, AnswersFollow, AnswersFitTurns, RefusalsTrue, EveryLineAnswered}
@@ -55,17 +56,17 @@ pub record InOrder (all : List Transaction) (size : ℕ) : Type 0 where
   pub answered_after : (i : ℕ) (x : Transaction) (exchange : Exchange) (outcome : Outcome) (position : ℕ) → StandsAt all i x →
       IsIn x.commands exchange → exchange.answer ≡ Some (outcome, position) → x.begin < position
 
--- a transaction has at most 64 operations
-abbrev pub AtMost64 : Option ℕ → Type 0
-AtMost64 None = Unit {0}
-AtMost64 (Some n) = n ≤ 64
+-- a transaction has at most as many operations as are allowed
+abbrev pub IsWithinLimit : Option ℕ → Type 0
+IsWithinLimit None = Unit {0}
+IsWithinLimit (Some n) = n ≤ OPERATIONS_MAX
 
 -- the session's transactions, the history, the map and the counts belong together
 pub record Together (ended : List Transaction) (current : Option Transaction) (size : ℕ) (history : List TxnId) (values : Values) (begun : ℕ) (count : Option ℕ) : Type 0 where
   pub history_is : history ≡ names (length ended)
   pub begun_is : begun ≡ length ended + length (option_to_list current)
   pub count_is : count ≡ count_in current
-  pub at_most : AtMost64 count
+  pub at_most : IsWithinLimit count
   pub ended_committed : AllByRecursion EndsCommitted ended
   pub is_open : IsOpen current
   pub replies : RepliesAgree no_values (done_by (ended ++ option_to_list current))
@@ -77,7 +78,7 @@ pub record Served (transcript : List TranscriptEntry) (history : List TxnId) (va
   pub paired : length (questions 1 transcript) ≡ length (answers 1 transcript)
   pub unasked : (session : ℕ) → (session ≡ 1 → ⊥) → questions session transcript ≡ []
   pub unanswered : (session : ℕ) → (session ≡ 1 → ⊥) → answers session transcript ≡ []
-  pub kept : Together (session_state 1 transcript).ended (session_state 1 transcript).current (length transcript) history values begun count
+  pub together : Together (session_state 1 transcript).ended (session_state 1 transcript).current (length transcript) history values begun count
   pub for_members : CommittedForMembers transcript history
   pub follow : AnswersFollow transcript
   pub fit_turns : AnswersFitTurns transcript

@@ -7,6 +7,7 @@ use Rattle.cl_types.specs.declared.operations.TxnId.{TxnId}
 use Rattle.cl_types.specs.declared.answers.Outcome.{Outcome}
 use Rattle.cl_types.specs.declared.answers.Outcome.TheVariants.{Done, Begun, Committed, NotTxn, InTxn, Full}
 use Rattle.cl_types.specs.Plain.{plain_reply, plain_value}
+use Rattle.cl_types.specs.declared.limits.TheConstants.{OPERATIONS_MAX}
 use Rattle.cl_serial.specs.PlainMap.{Values, updated}
 
 -- the outcome of a command; before it the session is outside, or in a transaction of so many operations
@@ -17,7 +18,7 @@ turn_outcome None Commit values = NotTxn
 turn_outcome None Abort values = NotTxn
 turn_outcome (Some count) Begin values = InTxn
 turn_outcome (Some count) (Work table key op) values =
-    if nat_eq count 64 then Full else Done (plain_reply op (values (table, key)))
+    if nat_eq count OPERATIONS_MAX then Full else Done (plain_reply op (values (table, key)))
 turn_outcome (Some count) Commit values = Committed
 turn_outcome (Some count) Abort values = InTxn
 
@@ -28,7 +29,7 @@ turn_count None (Work table key op) = None
 turn_count None Commit = None
 turn_count None Abort = None
 turn_count (Some count) Begin = Some count
-turn_count (Some count) (Work table key op) = if nat_eq count 64 then Some count else Some (count + 1)
+turn_count (Some count) (Work table key op) = if nat_eq count OPERATIONS_MAX then Some count else Some (count + 1)
 turn_count (Some count) Commit = None
 turn_count (Some count) Abort = Some count
 
@@ -45,7 +46,7 @@ abbrev pub turn_values : Option ℕ → Command → Values → Values
 turn_values None command values = values
 turn_values (Some count) Begin values = values
 turn_values (Some count) (Work table key op) values =
-    if nat_eq count 64 then values
+    if nat_eq count OPERATIONS_MAX then values
     else updated values (table, key) (plain_value op (values (table, key)))
 turn_values (Some count) Commit values = values
 turn_values (Some count) Abort values = values

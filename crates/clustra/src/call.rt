@@ -1,13 +1,13 @@
 //! The top call of the program.
 ghost use Rattle.std.specs.Prelude.{◌≡◌, ◌≤◌, ◌⊎◌, ◌↔◌, true, false, [], map, None, IsSome, IfSome, string_bytes};
 ghost use Rattle.cl_types.specs.AppendOnlyList.{entries};
-ghost use Rattle.cl_io.specs.Faults.{Rose};
+ghost use Rattle.cl_io.specs.Faults.{one_more};
 ghost use Rattle.std.specs.Io.KnownBytes.{IsAtEnd};
 ghost use Rattle.cl_serial.specs.Transcript.{transcript_of, full_text};
 ghost use Rattle.cl_serial.specs.Serial.{Serializable, EveryLineAnswered};
 ghost use Rattle.clustra.specs.Run.{AreServe, ReadsInput, OpenRepliesAgree, NeverAborts, WritesText, WritesAll, IsEndStatus};
 
-use crate::ended::{Ended, USAGE};
+use crate::ended::{DONE, Ended, NO_MEMORY, READ_FAULT, TOO_MUCH_INPUT, USAGE, WRITE_FAULT};
 use crate::serving::serve;
 use cl_io::{Gate, Sink, Source};
 use std::alloc::Global;
@@ -37,10 +37,10 @@ pub fn clustra<R: Threads + Wait + Sync, S: Source, K: Sink, G: Gate + Sync>(
     _gate: &G,
 ) -> Ended
     // Words other than `serve` are refused, and then nothing is read or written.
-    ensures usage { (result.status ≡ 2) ↔ (AreServe (map string_bytes words.now) → ⊥) }
-    ensures untouched { result.status ≡ 2 → (source.new ≡ source.old) × (sink.new ≡ sink.old) × (result.kept ≡ None) }
-    ensures kept { (result.status ≡ 2 → ⊥) → IsSome result.kept }
-    ensures status { (result.status ≡ 2 → ⊥) → IsEndStatus result.status }
+    ensures usage { (result.status ≡ USAGE) ↔ (AreServe (map string_bytes words.now) → ⊥) }
+    ensures untouched { result.status ≡ USAGE → (source.new ≡ source.old) × (sink.new ≡ sink.old) × (result.kept ≡ None) }
+    ensures kept { (result.status ≡ USAGE → ⊥) → IsSome result.kept }
+    ensures status { (result.status ≡ USAGE → ⊥) → IsEndStatus result.status }
 
     // The kept history explains the kept transcript, one transaction after another.
     ensures serializable { IfSome result.kept (λ kept. Serializable (transcript_of kept.transcript) (entries kept.history)) }
@@ -49,28 +49,31 @@ pub fn clustra<R: Threads + Wait + Sync, S: Source, K: Sink, G: Gate + Sync>(
     ensures open_replies { IfSome result.kept (λ kept. OpenRepliesAgree (transcript_of kept.transcript) (entries kept.history)) }
     ensures unaborted { IfSome result.kept (λ kept. NeverAborts (transcript_of kept.transcript)) }
 
-    // Every line that was fed is answered. At status 3 and 5 none was.
+    // Every line that was fed is answered. After a read that failed and after too much input none was.
     ensures answered { IfSome result.kept (λ kept. EveryLineAnswered (transcript_of kept.transcript)) }
-    ensures nothing_fed { IfSome result.kept (λ kept. (result.status ≡ 3) ⊎ (result.status ≡ 5)
+    ensures nothing_fed { IfSome result.kept (λ kept. (result.status ≡ READ_FAULT) ⊎ (result.status ≡ TOO_MUCH_INPUT)
         → (transcript_of kept.transcript ≡ []) × (entries kept.history ≡ [])) }
 
-    // The transcript is of the lines that were read, and its text is what was written. At status 3, 5 and 6 the sink
-    // is as it was.
+    // The transcript is of the lines that were read, and its text is what was written.
     ensures read { IfSome result.kept (λ kept.
         ReadsInput result.status (S.left source.old) (S.left source.new) (transcript_of kept.transcript)) }
     ensures written { IfSome result.kept (λ kept.
         WritesText (K.written sink.old) (K.written sink.new) (full_text (transcript_of kept.transcript))) }
-    ensures all { IfSome result.kept (λ kept. (result.status ≡ 0) ⊎ ((result.status ≡ 3) ⊎ (result.status ≡ 5))
+    ensures all { IfSome result.kept (λ kept. (result.status ≡ DONE) ⊎ ((result.status ≡ READ_FAULT) ⊎ (result.status ≡ TOO_MUCH_INPUT))
         → WritesAll (K.written sink.old) (K.written sink.new) (full_text (transcript_of kept.transcript))) }
-    ensures unwritten { (result.status ≡ 3) ⊎ ((result.status ≡ 5) ⊎ (result.status ≡ 6)) → sink.new ≡ sink.old }
+    ensures unwritten { (result.status ≡ READ_FAULT) ⊎ ((result.status ≡ TOO_MUCH_INPUT) ⊎ (result.status ≡ NO_MEMORY)) → sink.new ≡ sink.old }
 
-    // At status 0 what was written was flushed.
-    ensures flushed { result.status ≡ 0 → K.flushed sink.new ≡ K.written sink.new }
+    // A run that is done has flushed what it wrote.
+    ensures flushed { result.status ≡ DONE → K.flushed sink.new ≡ K.written sink.new }
 
     // Each status has its cause.
-    ensures end { result.status ≡ 0 → IsAtEnd (S.left source.new) }
-    ensures read_fault { result.status ≡ 3 → Rose (S.faults source.old) (S.faults source.new) }
-    ensures write_fault { result.status ≡ 4 → Rose (K.faults sink.old) (K.faults sink.new) }
+    ensures end { result.status ≡ DONE → IsAtEnd (S.left source.new) }
+    ensures read_fault { result.status ≡ READ_FAULT → S.faults source.new ≡ one_more (S.faults source.old) }
+    ensures write_fault { result.status ≡ WRITE_FAULT → K.faults sink.new ≡ one_more (K.faults sink.old) }
+
+    // The first fault ends the run: at every other status no call of that end failed.
+    ensures read_unfaulted { (result.status ≡ READ_FAULT → ⊥) → S.faults source.new ≡ S.faults source.old }
+    ensures write_unfaulted { (result.status ≡ WRITE_FAULT → ⊥) → K.faults sink.new ≡ K.faults sink.old }
     ensures counted { (S.faults source.old ≤ S.faults source.new) × (K.faults sink.old ≤ K.faults sink.new) }
 {
     if !are_serve(words) {

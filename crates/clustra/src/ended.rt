@@ -1,4 +1,4 @@
-//! How a run ended, and what is kept of it.
+//! How a run ends, and what is kept of it.
 use cl_serial::{History, Transcript};
 
 /// What is kept of a run: what was fed and written, and the order in which transactions committed.
@@ -8,16 +8,16 @@ pub struct Kept {
     pub history: History,
 }
 
-/// How a run ended. `kept` is `None` at status 2 alone.
+/// How a run ended. `kept` is `None` at status `USAGE` alone.
 #[derive(Debug, Drop)]
 pub struct Ended {
     pub status: u8,
     pub kept: Option<Kept>,
 }
 
-/// The source was read to its end, every line was answered, and every answer written.
+/// The source was read to its end, every line was answered, and every answer written and flushed.
 pub const DONE: u8 = 0;
-/// The words are not of the grammar. Nothing was read or written.
+/// The words are not the one word `serve`. Nothing was read or written.
 pub const USAGE: u8 = 2;
 /// A read failed. Nothing was fed or written.
 pub const READ_FAULT: u8 = 3;
@@ -25,5 +25,5 @@ pub const READ_FAULT: u8 = 3;
 pub const WRITE_FAULT: u8 = 4;
 /// There is more input than a run takes. Nothing was fed or written.
 pub const TOO_MUCH_INPUT: u8 = 5;
-/// Memory was wanting. Nothing was written.
+/// An allocation failed. Nothing was written.
 pub const NO_MEMORY: u8 = 6;

@@ -23,7 +23,7 @@ fn first_line(bytes: &[u8]) -> (&[u8], &[u8])
     (bytes, &[])
 }
 
-// What is kept of a line: one byte more than a line may have shows that it is too long.
+// The part of a line that is kept: one byte past the limit shows that it is too long.
 fn shortened(line: &[u8]) -> &[u8]
     ensures { result.now ≡ kept_line line.now }
 {
@@ -34,7 +34,7 @@ fn shortened(line: &[u8]) -> &[u8]
     }
 }
 
-/// Feeds the lines of the bytes to a server that was fed nothing. After a refusal it was fed the first of them.
+/// Feeds the lines of the bytes to a server that was fed nothing. After an error it was fed the first of them.
 pub(crate) fn feed_lines(alloc: Global, server: &mut Server, bytes: &[u8]) -> Result<(), NoMemory>
     requires serving { IsServing server.old }
     requires unfed { transcript_of server.old.transcript ≡ [] }

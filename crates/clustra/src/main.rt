@@ -5,6 +5,7 @@ mod call;
 mod ended;
 mod feeding;
 mod input;
+mod limits;
 mod output;
 mod server;
 mod serving;

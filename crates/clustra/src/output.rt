@@ -7,7 +7,7 @@ use cl_serial::{Said, Transcript};
 use cl_types::NoMemory;
 use std::alloc::Global;
 
-// Adds what an entry writes.
+// Appends what an entry writes.
 fn append_entry(alloc: Global, text: &mut Vec<u8>, said: &Said) -> Result<(), NoMemory>
     ensures { OnOk result (text.new.items ≡ text.old.items ++ entry_text (transcript_entry said.now)) }
 {

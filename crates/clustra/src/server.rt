@@ -7,19 +7,15 @@ ghost use Rattle.cl_lines.specs.declared.out.Out.{Out as Printed};
 ghost use Rattle.cl_serial.specs.Transcript.{transcript_of, fed, written};
 ghost use Rattle.cl_types.specs.Places.{Place};
 ghost use Rattle.cl_serial.specs.PlainMapModel.{value_at};
-ghost use Rattle.cl_serial.specs.Serial.{Serializable, EveryLineAnswered};
-ghost use Rattle.clustra.specs.Run.{OpenRepliesAgree, NeverAborts};
+ghost use Rattle.clustra.specs.RunEnds.{Explains};
 ghost use Rattle.clustra.specs.Turn.{turn_outcome, turn_count, turn_begun, turn_values, turn_history, IsAsked};
 ghost use Rattle.clustra.specs.Server.{IsServing, IsServingWith, Unchanged};
 
 use crate::ended::Kept;
 use cl_lines::{Line, Out, Unread, read_line};
 use cl_serial::{History, PlainMap, Said, Transcript};
-use cl_types::{Command, Key, NoMemory, Op, Outcome, TableName, Text, TxnId};
+use cl_types::{Command, Key, NoMemory, OPERATIONS_MAX, Op, Outcome, TableName, Text, TxnId};
 use std::alloc::Global;
-
-/// The most operations of a transaction.
-pub(crate) const OPERATIONS_MAX: u32 = 64;
 
 /// What the server keeps.
 #[derive(Debug, Drop)]
@@ -27,9 +23,9 @@ pub(crate) struct Server {
     pub(crate) transcript: Transcript,
     pub(crate) history: History,
     pub(crate) values: PlainMap,
-    // How many transactions the session has begun.
+    // The number of transactions that the session has begun.
     pub(crate) begun: u64,
-    // How many operations its transaction has, where it is in one.
+    // The number of operations in its transaction, if it is in one.
     pub(crate) count: Option<u32>,
 }
 
@@ -59,7 +55,7 @@ impl Server {
         }
     }
 
-    // Does an operation of the session's transaction, which has so many, unless it has the most.
+    // Does an operation of the session's transaction, unless the transaction is full.
     fn work(
         &mut self,
         count: u32,
@@ -67,7 +63,7 @@ impl Server {
         key: &Key,
         op: &Op,
     ) -> Result<Outcome, NoMemory>
-        requires few { count ≤ 64 }
+        requires few { count ≤ OPERATIONS_MAX }
         requires in_transaction { self.old.count ≡ Some count }
         ensures outcome { IfOk result (λ outcome.
             outcome ≡ turn_outcome (Some count) (Command.Work table.now key.now op.now) (value_at self.old.values)) }
@@ -104,7 +100,7 @@ impl Server {
         requires asked { IsAsked command.now }
         requires room { 1 ≤ room self.old.history }
         requires few { self.old.begun + 1 < 2 ^ 64 }
-        requires at_most { (count : ℕ) → self.old.count ≡ Some count → count ≤ 64 }
+        requires at_most { (count : ℕ) → self.old.count ≡ Some count → count ≤ OPERATIONS_MAX }
         ensures outcome { IfOk result (λ outcome. outcome ≡ turn_outcome self.old.count command.now (value_at self.old.values)) }
         ensures count { OnOk result (self.new.count ≡ turn_count self.old.count command.now) }
         ensures begun { OnOk result (self.new.begun ≡ turn_begun self.old.count command.now self.old.begun) }
@@ -148,7 +144,7 @@ impl Server {
         }
     }
 
-    // What is written for a line, and what it changes but for the transcript.
+    // Answers a line, but leaves the transcript as it is.
     fn answer(&mut self, alloc: Global, number: u64, line: &[u8]) -> Result<Out, NoMemory>
         requires serving { IsServing self.old }
         requires room { 1 ≤ room self.old.history }
@@ -168,7 +164,7 @@ impl Server {
         }
     }
 
-    /// Answers a line. After a refusal nothing has changed.
+    /// Answers a line. After an error nothing has changed.
     pub(crate) fn feed(&mut self, alloc: Global, number: u64, line: &[u8]) -> Result<(), NoMemory>
         requires serving { IsServing self.old }
         requires few { self.old.begun + 1 < 2 ^ 64 }
@@ -190,10 +186,7 @@ impl Server {
     /// What is kept of the server.
     pub(crate) fn into_kept(self) -> Kept
         requires { IsServing self }
-        ensures serializable { Serializable (transcript_of result.transcript) (entries result.history) }
-        ensures open_replies { OpenRepliesAgree (transcript_of result.transcript) (entries result.history) }
-        ensures unaborted { NeverAborts (transcript_of result.transcript) }
-        ensures answered { EveryLineAnswered (transcript_of result.transcript) }
+        ensures explained { Explains (transcript_of result.transcript) (entries result.history) }
         ensures transcript { result.transcript ≡ self.transcript }
         ensures history { result.history ≡ self.history }
     {
