@@ -1,6 +1,13 @@
 //! The server's program.
 #![tactic(auto)]
 
+ghost use Rattle.std.specs.Prelude.{◌≡◌, ◌⊎◌, ◌↔◌};
+ghost use Rattle.std.specs.Io.KnownBytes.{IsAtEnd};
+ghost use Rattle.std.specs.IoError.{error_kind};
+ghost use Rattle.std.specs.Process.{exit_status};
+ghost use Rattle.cl_io.specs.Faults.{one_more};
+ghost use Rattle.clustra.specs.Run.{IsStatus};
+
 mod call;
 mod ended;
 mod feeding;
@@ -13,14 +20,17 @@ mod serving;
 mod tests;
 
 use call::clustra;
-use cl_io::{NoGate, StdSink, StdSource};
-use ended::{NO_MEMORY, USAGE};
-use std::alloc::AllocError;
+use cl_io::{NoGate, Sink, Source, StdSink, StdSource};
+use ended::{DONE, NO_MEMORY, READ_FAULT, USAGE, WRITE_FAULT};
+use std::alloc::{AllocError, AllocGlobal};
+use std::env::{self, Env};
+use std::io::{self, ErrorKind};
 use std::process::ExitCode;
-use std::{env, io};
+use std::sync::Wait;
+use std::thread::Threads;
 
-// The words after the program's name.
-fn words_of(rt: &HostRuntime) -> Result<Vec<String>, io::Error> {
+// The words after the program's name. An error means that an allocation failed or that a word is not UTF-8.
+fn words_of<R: Env + AllocGlobal>(rt: &R) -> Result<Vec<String>, io::Error> {
     let mut words = Vec::new(rt.alloc());
     for word in env::args(rt)?.skip(1) {
         words.push(word).map_err(AllocError::from)?;
@@ -28,21 +38,44 @@ fn words_of(rt: &HostRuntime) -> Result<Vec<String>, io::Error> {
     Ok(words)
 }
 
-// The status of a run whose words could not be had: memory was wanting, or one is not UTF-8.
-fn status_of_words(error: &io::Error) -> u8 {
+// The status of a run whose words could not be had.
+fn status_of_words(error: &io::Error) -> u8
+    ensures no_memory { (result ≡ NO_MEMORY) ↔ (error_kind error.now ≡ ErrorKind.OutOfMemory) }
+    ensures status { (result ≡ NO_MEMORY) ⊎ (result ≡ USAGE) }
+{
     match error.kind() {
-        io::ErrorKind::OutOfMemory => NO_MEMORY,
+        ErrorKind::OutOfMemory => NO_MEMORY,
         _ => USAGE,
     }
 }
 
+// Runs the server on the program's words, and returns what the program exits with.
+fn run_program<R: Threads + Wait + Sync + Env + AllocGlobal, S: Source, K: Sink>(
+    rt: &R,
+    source: &mut S,
+    sink: &mut K,
+) -> ExitCode
+    ensures status { IsStatus (exit_status result) }
+    ensures usage { exit_status result ≡ USAGE → (source.new ≡ source.old) × (sink.new ≡ sink.old) }
+    ensures end { exit_status result ≡ DONE → IsAtEnd (S.left source.new) }
+    ensures flushed { exit_status result ≡ DONE → K.flushed sink.new ≡ K.written sink.new }
+    ensures read_fault { exit_status result ≡ READ_FAULT → S.faults source.new ≡ one_more (S.faults source.old) }
+    ensures write_fault { exit_status result ≡ WRITE_FAULT → K.faults sink.new ≡ one_more (K.faults sink.old) }
+    ensures read_unfaulted { (exit_status result ≡ READ_FAULT → ⊥) → S.faults source.new ≡ S.faults source.old }
+    ensures write_unfaulted { (exit_status result ≡ WRITE_FAULT → ⊥) → K.faults sink.new ≡ K.faults sink.old }
+{
+    match words_of(rt) {
+        Ok(words) => {
+            let ended = clustra(rt, rt.alloc(), &words, source, sink, &NoGate);
+            ExitCode::from(ended.status)
+        }
+        Err(error) => ExitCode::from(status_of_words(&error)),
+    }
+}
+
+// A contract on `main` is not possible: it makes the ends and returns what `run_program` says.
 fn main(rt: HostRuntime) -> ExitCode {
-    let words = match words_of(&rt) {
-        Ok(words) => words,
-        Err(error) => return ExitCode::from(status_of_words(&error)),
-    };
     let mut source = StdSource::new(rt.stdin());
     let mut sink = StdSink::new(rt.stdout());
-    let ended = clustra(&rt, rt.alloc(), &words, &mut source, &mut sink, &NoGate);
-    ExitCode::from(ended.status)
+    run_program(&rt, &mut source, &mut sink)
 }
