@@ -8,6 +8,7 @@ use Rattle.clustra.specs.Run.{ReadsInput}
 use Rattle.clustra.specs.declared.ended.TheConstants.{DONE, READ_FAULT, WRITE_FAULT, TOO_MUCH_INPUT, NO_MEMORY}
 use Rattle.clustra.specs.declared.input.InputFault.{InputFault}
 use Rattle.clustra.specs.declared.input.InputFault.TheVariants.{Read, TooMuch, NoMemory}
+use Rattle.clustra.proofs.Inputs.{ReadsToEnd-nothing}
 
 -- a run whose input was read to its end is not stopped for it
 not_too_much : (status : ℕ) → (status ≡ DONE) ⊎ ((status ≡ WRITE_FAULT) ⊎ (status ≡ NO_MEMORY)) → status ≡ TOO_MUCH_INPUT → ⊥
@@ -54,3 +55,9 @@ ReadsInput-fault view status before after transcript fault h none ended stopped_
       all_lines = λ done. absurd (not_done status ended done);
       too_much = both;
     }
+
+-- nothing was read
+pub ReadsInput-nothing : (status : ℕ) (left : Option (List ℕ)) → status ≡ NO_MEMORY → ReadsInput status left left []
+ReadsInput-nothing status left none =
+    let view : List ℕ → List ℕ = λ bytes. bytes in
+    ReadsInput-fault view status left left [] NoMemory (ReadsToEnd-nothing view left) refl (inr (inr none)) (λ stopped. absurd (omega (arith, none, stopped)), λ is. absurd (cc))

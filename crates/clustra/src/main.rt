@@ -1,12 +1,13 @@
 //! The server's program.
 #![tactic(auto)]
 
-ghost use Rattle.std.specs.Prelude.{◌≡◌, ◌⊎◌, ◌↔◌};
+ghost use Rattle.std.specs.Prelude.{◌≡◌, ◌⊎◌, ◌↔◌, List};
 ghost use Rattle.std.specs.Io.KnownBytes.{IsAtEnd};
 ghost use Rattle.std.specs.IoError.{error_kind};
 ghost use Rattle.std.specs.Process.{exit_status};
 ghost use Rattle.cl_io.specs.Faults.{one_more};
-ghost use Rattle.clustra.specs.Run.{IsStatus};
+ghost use Rattle.cl_serial.specs.Transcript.{TranscriptEntry};
+ghost use Rattle.clustra.specs.Run.{IsStatus, ReadsInput};
 
 mod call;
 mod ended;
@@ -57,6 +58,8 @@ fn run_program<R: Threads + Wait + Sync + Env + AllocGlobal, S: Source, K: Sink>
 ) -> ExitCode
     ensures status { IsStatus (exit_status result) }
     ensures usage { exit_status result ≡ USAGE → (source.new ≡ source.old) × (sink.new ≡ sink.old) }
+    ensures read { (exit_status result ≡ USAGE → ⊥) → (transcript : List TranscriptEntry)
+        × ReadsInput (exit_status result) (S.left source.old) (S.left source.new) transcript }
     ensures end { exit_status result ≡ DONE → IsAtEnd (S.left source.new) }
     ensures flushed { exit_status result ≡ DONE → K.flushed sink.new ≡ K.written sink.new }
     ensures read_fault { exit_status result ≡ READ_FAULT → S.faults source.new ≡ one_more (S.faults source.old) }
