@@ -1,14 +1,17 @@
 use crate::call::clustra;
+use crate::ended::{DONE, NO_MEMORY, READ_FAULT, TOO_MUCH_INPUT, USAGE, WRITE_FAULT};
+use crate::limits::{BYTES_MAX, LINES_MAX};
 use cl_io::{MemSink, MemSource, NoGate};
-use cl_types::NoMemory;
+use cl_types::{NoMemory, OPERATIONS_MAX};
 use std::alloc::{AllocError, Global};
 use std::sync::Wait;
 use std::test::Fail;
 use std::thread::Threads;
 
 /// What a run is given, and how it must end.
-#[derive(Drop)]
+#[derive(Clone, Copy)]
 struct Case<'a> {
+    name: &'static str,
     word: &'a str,
     input: &'a [u8],
     failing_reads: &'a [u64],
@@ -18,14 +21,15 @@ struct Case<'a> {
 }
 
 /// A case of `serve` whose source and sink do not fail.
-fn served<'a>(input: &'a [u8], output: &'a [u8]) -> Case<'a> {
+fn served<'a>(name: &'static str, input: &'a [u8], output: &'a [u8]) -> Case<'a> {
     Case {
+        name,
         word: "serve",
         input,
         failing_reads: &[],
         failing_writes: &[],
         output,
-        status: 0,
+        status: DONE,
     }
 }
 
@@ -45,20 +49,21 @@ fn end_of<R: Threads + Wait + Sync>(
     Ok((ended.status, sink))
 }
 
-/// Whether memory is wanting: of the server, or of the sink, which then fails a write. What was written before is
+/// Whether an allocation failed: in the server, or in the sink, which then fails a write. What was written before is
 /// a first part of the output.
-fn is_wanting(status: u8, written: &[u8], output: &[u8]) -> bool {
-    (status == 6 || status == 4 && written != output) && output.starts_with(written)
+fn is_out_of_memory(status: u8, written: &[u8], output: &[u8]) -> bool {
+    (status == NO_MEMORY || status == WRITE_FAULT && written != output)
+        && output.starts_with(written)
 }
 
-/// Whether a run in memory ends as the case says, unless memory is wanting.
+/// Whether a run in memory ends as the case says, unless an allocation failed.
 fn ends_so<R: Threads + Wait + Sync>(
     rt: &R,
     alloc: Global,
     case: &Case<'_>,
 ) -> Result<bool, NoMemory> {
     let (status, sink) = end_of(rt, alloc, case)?;
-    if is_wanting(status, sink.bytes(), case.output) {
+    if is_out_of_memory(status, sink.bytes(), case.output) {
         return Err(NoMemory);
     }
     Ok(status == case.status && sink.bytes() == case.output)
@@ -75,77 +80,92 @@ fn repeated(alloc: Global, piece: &[u8], times: usize) -> Result<Vec<u8>, AllocE
 
 const FIRST_TRANSACTION: &[u8] = b"1 BEGIN\n1 PUT t a x\n1 GET t a\n1 COMMIT\n";
 
+const REPLIES: &[u8] = b"1 OK\n1 OK\n1 VAL x\n1 COMMITTED\n";
+
+const OUT_OF_TURN: &[u8] = b"1 GET t a\n1 COMMIT\n1 BEGIN\n1 BEGIN\n1 ABORT\n2 BEGIN\n";
+
+const REFUSALS: &[u8] =
+    b"1 ERR NOTXN\n1 ERR NOTXN\n1 OK\n1 ERR INTXN\n* ERR LINE 5 WORDS\n* ERR LINE 6 WORDS\n";
+
 #[test]
 fn runs_end_as_they_must(rt: HostRuntime) -> Result<(), Fail> {
-    let replies = b"1 OK\n1 OK\n1 VAL x\n1 COMMITTED\n".as_slice();
-    let out_of_turn = b"1 GET t a\n1 COMMIT\n1 BEGIN\n1 BEGIN\n1 ABORT\n2 BEGIN\n".as_slice();
-    let named =
-        b"1 ERR NOTXN\n1 ERR NOTXN\n1 OK\n1 ERR INTXN\n* ERR LINE 5 WORDS\n* ERR LINE 6 WORDS\n".as_slice();
     let cases = [
-        served(b"".as_slice(), b"".as_slice()),
-        served(FIRST_TRANSACTION, replies),
-        served(out_of_turn, named),
+        served("no input", b"", b""),
+        served("a transaction", FIRST_TRANSACTION, REPLIES),
+        served("lines out of turn", OUT_OF_TURN, REFUSALS),
         Case {
             word: "demo",
-            output: b"",
-            status: 2,
-            ..served(FIRST_TRANSACTION, b"")
+            status: USAGE,
+            ..served("another word", FIRST_TRANSACTION, b"")
         },
         Case {
             failing_reads: &[1],
-            status: 3,
-            ..served(FIRST_TRANSACTION, b"")
+            status: READ_FAULT,
+            ..served("the first read fails", FIRST_TRANSACTION, b"")
+        },
+        Case {
+            failing_reads: &[2],
+            status: READ_FAULT,
+            ..served("the last read fails", FIRST_TRANSACTION, b"")
         },
         Case {
             failing_writes: &[1],
-            status: 4,
-            ..served(FIRST_TRANSACTION, b"")
+            status: WRITE_FAULT,
+            ..served("the write fails", FIRST_TRANSACTION, b"")
         },
-        // The second call of the sink is the flush.
         Case {
             failing_writes: &[2],
-            status: 4,
-            ..served(FIRST_TRANSACTION, replies)
+            status: WRITE_FAULT,
+            ..served("the flush fails", FIRST_TRANSACTION, REPLIES)
         },
     ];
     for case in &cases {
-        assert!(rt; ends_so(&rt, rt.alloc(), case)?);
+        let holds = ends_so(&rt, rt.alloc(), case)?;
+        assert!(rt; holds, "{}", case.name);
     }
     Ok(())
 }
 
 // Where an allocation fails, the run or its sink says so, and nothing is written, as the text is written at once.
 #[test]
-fn a_want_of_memory_has_its_status(rt: HostRuntime) -> Result<(), Fail> {
-    let replies = b"1 OK\n1 OK\n1 VAL x\n1 COMMITTED\n".as_slice();
-    let (status, sink) = end_of(&rt, rt.alloc(), &served(FIRST_TRANSACTION, replies))?;
-    assert!(rt; status == 0 || status == 4 || status == 6);
-    assert!(rt; sink.bytes() == if status == 0 { replies } else { b"".as_slice() });
+fn a_failed_allocation_has_its_status(rt: HostRuntime) -> Result<(), Fail> {
+    let case = served("a transaction", FIRST_TRANSACTION, REPLIES);
+    let (status, sink) = end_of(&rt, rt.alloc(), &case)?;
+    let written = if status == DONE { REPLIES } else { b"" };
+    let holds = matches!(status, DONE | WRITE_FAULT | NO_MEMORY) && sink.bytes() == written;
+    assert!(rt; holds, "at status {status}");
     Ok(())
 }
 
 #[test]
-fn the_operation_after_64_is_refused(rt: HostRuntime) -> Result<(), Fail> {
+fn an_operation_too_many_is_refused(rt: HostRuntime) -> Result<(), Fail> {
+    let most = OPERATIONS_MAX as usize;
     let mut input = Vec::from_slice(rt.alloc(), b"1 BEGIN\n")?;
-    input.extend_from_slice(&repeated(rt.alloc(), b"1 GET t a\n", 65)?)?;
+    input.extend_from_slice(&repeated(rt.alloc(), b"1 GET t a\n", most + 1)?)?;
     input.extend_from_slice(b"1 COMMIT")?;
     let mut output = Vec::from_slice(rt.alloc(), b"1 OK\n")?;
-    output.extend_from_slice(&repeated(rt.alloc(), b"1 NONE\n", 64)?)?;
+    output.extend_from_slice(&repeated(rt.alloc(), b"1 NONE\n", most)?)?;
     output.extend_from_slice(b"1 ERR FULL\n1 COMMITTED\n")?;
-    assert!(rt; ends_so(&rt, rt.alloc(), &served(&input, &output))?);
+    let holds = ends_so(
+        &rt,
+        rt.alloc(),
+        &served("a full transaction", &input, &output),
+    )?;
+    assert!(rt; holds);
     Ok(())
 }
 
 #[test]
 fn input_past_the_limits_is_refused(rt: HostRuntime) -> Result<(), Fail> {
-    let lines = repeated(rt.alloc(), b"1 GET t a\n", 100_001)?;
-    let bytes = repeated(rt.alloc(), b"xxxxxxxxxx", 2_570_001)?;
-    for input in [lines.as_slice(), bytes.as_slice()] {
+    let lines = repeated(rt.alloc(), b"1 GET t a\n", LINES_MAX + 1)?;
+    let bytes = repeated(rt.alloc(), b"xxxxxxxxxx", BYTES_MAX / 10 + 1)?;
+    for (name, input) in [("lines", lines.as_slice()), ("bytes", bytes.as_slice())] {
         let case = Case {
-            status: 5,
-            ..served(input, b"")
+            status: TOO_MUCH_INPUT,
+            ..served(name, input, b"")
         };
-        assert!(rt; ends_so(&rt, rt.alloc(), &case)?);
+        let holds = ends_so(&rt, rt.alloc(), &case)?;
+        assert!(rt; holds, "too many {name}");
     }
     Ok(())
 }
