@@ -1,3 +1,5 @@
+pub mod Beginnings
+pub mod Conflicts
 pub mod Cut
 pub mod Entries
 pub mod KindFacts
@@ -10,6 +12,7 @@ pub mod Open
 mod Parts
 pub mod Places
 pub mod Rest
+pub mod Reversible
 pub mod Settled
 pub mod Store
 pub mod Txn

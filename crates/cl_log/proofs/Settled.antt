@@ -383,3 +383,13 @@ pub IsReversible-set : (seen : List LogEntry) (txn : TxnId) (table key : List �
     IsReversible seen (Set txn table key before old new)
 IsReversible-set seen txn table key before old new h =
     λ place here. sym (ap (λ (p : Place). (store_of_log seen p).1) (sym (same_place-true (table, key) place here)) ∙ h)
+
+-- a place that no transaction outside the history has locked exclusively is settled as the store has it
+pub settled_at-free : (entries : List LogEntry) (history : List TxnId) (place : Place) →
+    ((txn : TxnId) → locks_of_log entries txn place ≡ Some Exclusive → is_among txn history ≡ true) → settled entries history place ≡ (store_of_log entries place).1
+settled_at-free entries history place members =
+    settled-undone entries history place
+    ∙ undone-none (is_unsettled entries history) place (store_of_log entries place).1 entries
+    (λ before x after e here. false_from_ne_true _ (λ passes.
+    both_ways _ (not-true _ (and_parts _ _ (and_parts _ _ passes).1).1)
+    (members (txn_of x.content) (unsettled-locks entries history place before x after e passes here))))

@@ -1,13 +1,15 @@
 -- What holds of every log: how what follows from it changes with one more record, and what undoing and redoing keep.
-use Rattle.std.specs.Prelude.{◌≡◌, ◌≢◌, ℕ, ◌+◌, ◌<◌, ◌≤◌, ◌⊎◌, true, false, List, [], ◌∷◌, ◌++◌, length, Some}
+use Rattle.std.specs.Prelude.{◌≡◌, ◌≢◌, ℕ, ◌+◌, ◌<◌, ◌≤◌, ◌⊎◌, true, false, List, [], ◌∷◌, ◌++◌, length, Some, ℤ, ◌+ℤ◌}
 use Rattle.std.specs.List.{IsDistinct}
 use Rattle.cl_types.specs.declared.operations.Mode.TheVariants.{Exclusive}
 use Rattle.cl_types.specs.declared.operations.TxnId.{TxnId}
+use Rattle.cl_types.specs.Decimal.{number, is_signed_64}
 use Rattle.cl_types.specs.Places.{Place, Stored}
 use Rattle.cl_types.specs.Transactions.{same_txn}
+use Rattle.cl_log.specs.declared.records.LogRec.TheVariants.{Add}
 use Rattle.cl_log.specs.LogEntry.{LogEntry, IsNumberedFrom, EachAfter, BeginsWith}
 use Rattle.cl_log.specs.Kind.{txn_of, is_end, is_mark, can_be_undone, writes, number_before}
-use Rattle.cl_log.specs.Lawful.{UndoesInOrder}
+use Rattle.cl_log.specs.Lawful.{UndoesInOrder, IsLawfulLog, LosesEndsOfMembers}
 use Rattle.cl_log.specs.Locks.{takes_lock, locks_after, locks_of_log, HasNoConflict}
 use Rattle.cl_log.specs.Open.{has_ended, is_open, is_among, is_under_way, stage_of, chain_of, low_of, unended_of}
 use Rattle.cl_log.specs.Rest.{is_undone, times_undone, rest_to_undo, undo_of}
@@ -109,3 +111,26 @@ abbrev pub CutKeepsLocks : Type 0
 CutKeepsLocks = (entries below kept : List LogEntry) (n : ℕ) (txn : TxnId) (place : Place) → IsNumberedFrom n entries →
     EachAfter (λ seen entry. takes_lock entry.content ≡ true → has_ended seen (txn_of entry.content) ≡ false) [] entries →
     entries ≡ below ++ kept → n + length below ≤ low_of entries (n + length entries) → locks_of_log kept txn place ≡ locks_of_log entries txn place
+
+-- at a place that no transaction outside the history has locked exclusively, the settled map is the store
+abbrev pub FreePlacesAreSettled : Type 0
+FreePlacesAreSettled = (entries : List LogEntry) (history : List TxnId) (place : Place) →
+    ((txn : TxnId) → locks_of_log entries txn place ≡ Some Exclusive → is_among txn history ≡ true) → settled entries history place ≡ (store_of_log entries place).1
+
+-- an Add to a number, with its sum within 64 bits, can be reversed
+abbrev pub AdditionsAreReversible : Type 0
+AdditionsAreReversible = (seen : List LogEntry) (txn : TxnId) (table key : List ℕ) (before : ℕ) (amount : ℤ) (value : List ℕ) (augend : ℤ) →
+    (store_of_log seen (table, key)).1 ≡ Some value → number value ≡ Some augend → is_signed_64 (augend +ℤ amount) ≡ true → IsReversible seen (Add txn table key before amount)
+
+-- no compensation names a number that is still to come
+abbrev pub NextIsNotUndone : Type 0
+NextIsNotUndone = (entries : List LogEntry) (n number : ℕ) → IsNumberedFrom n entries → UndoesInOrder entries → n + length entries ≤ number → is_undone entries number ≡ false
+
+-- no beginning of a lawful log has a conflict
+abbrev pub LawfulLogsHaveNoConflict : Type 0
+LawfulLogsHaveNoConflict = (history : List TxnId) (front rest : List LogEntry) → IsLawfulLog history (front ++ rest) → HasNoConflict front
+
+-- a beginning of a lawful log that has all records of members but their Ends settles as the log does
+abbrev pub BeginningsKeepSettled : Type 0
+BeginningsKeepSettled = (entries front lost : List LogEntry) (n : ℕ) (history : List TxnId) → IsNumberedFrom n entries → IsLawfulLog history entries →
+    entries ≡ front ++ lost → LosesEndsOfMembers history lost → (place : Place) → settled front history place ≡ settled entries history place

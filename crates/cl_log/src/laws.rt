@@ -1,5 +1,5 @@
 //! What holds of every log. Each function does nothing: its contract is a law of the definitions.
-ghost use Rattle.cl_log.specs.Laws.{StoreFollowsRecords, RedoLeavesLater, RedoMeetsGuard, LocksFollowRecords, UndoTakesFirst, UndoKeepsSettled, WritesUndoneOnce, RecordsKeepSettled, HistorySettlesLocks, UnendedAreOpen, UnendedByFirstNumber, OpenByStage, LowIsLeastOpen, CutKeepsLocks};
+ghost use Rattle.cl_log.specs.Laws.{StoreFollowsRecords, RedoLeavesLater, RedoMeetsGuard, LocksFollowRecords, UndoTakesFirst, UndoKeepsSettled, WritesUndoneOnce, RecordsKeepSettled, HistorySettlesLocks, UnendedAreOpen, UnendedByFirstNumber, OpenByStage, LowIsLeastOpen, CutKeepsLocks, FreePlacesAreSettled, AdditionsAreReversible, NextIsNotUndone, LawfulLogsHaveNoConflict, BeginningsKeepSettled};
 ghost use Rattle.std.specs.Prelude.{◌≡◌, ◌+◌, ◌≤◌, length};
 ghost use Rattle.cl_log.specs.LogEntry.{IsNumberedFrom};
 ghost use Rattle.cl_log.specs.Log.{entries, first_kept, next_number};
@@ -89,4 +89,31 @@ pub fn open_by_stage()
 /// Touch, Set or Add is of a transaction without End.
 pub fn cut_keeps_locks()
     ensures { CutKeepsLocks }
+{}
+
+/// The settled map is the store at a place that no transaction outside the history has locked
+/// exclusively.
+pub fn free_places_are_settled()
+    ensures { FreePlacesAreSettled }
+{}
+
+/// Undoing an Add to a number, with its sum within 64 bits, gives that number back.
+pub fn additions_are_reversible()
+    ensures { AdditionsAreReversible }
+{}
+
+/// In a numbered log whose compensations undo in order, none names a number that is still to come.
+pub fn next_is_not_undone()
+    ensures { NextIsNotUndone }
+{}
+
+/// No beginning of a lawful log has two locks in conflict.
+pub fn lawful_logs_have_no_conflict()
+    ensures { LawfulLogsHaveNoConflict }
+{}
+
+/// A beginning of a lawful log settles as the log does, where it has all records of members of the
+/// history but their Ends.
+pub fn beginnings_keep_settled()
+    ensures { BeginningsKeepSettled }
 {}
