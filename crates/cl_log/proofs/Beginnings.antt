@@ -1,6 +1,6 @@
 -- A lawful log without its last records settles as it did, where of members of the history nothing is lost but Ends.
-use Rattle.std.proofs.Common.{◌≡◌, ℕ, ◌+◌, true, false, List, [], ◌∷◌, ◌++◌, length, refl, sym, ap, ◌∙◌, subst, arith}
-use Rattle.std.proofs.lemmas.Bool.{false_from_ne_true, both_ways, eq-eqb, and_parts, and_from, not_from_false}
+use Rattle.std.proofs.Common.{◌≡◌, ◌||◌, ℕ, ◌+◌, true, false, List, [], ◌∷◌, ◌++◌, length, refl, sym, ap, ◌∙◌, subst, arith}
+use Rattle.std.proofs.lemmas.Bool.{false_from_ne_true, both_ways, eq-eqb, and_parts, and_from, not_from_false, or_right}
 use Rattle.std.proofs.lemmas.List.{append_assoc, append-nil}
 use Rattle.cl_types.specs.declared.operations.TxnId.{TxnId}
 use Rattle.cl_types.specs.Places.{Place}
@@ -23,14 +23,14 @@ use Rattle.cl_log.proofs.Settled.{has_begun-at, settled_after_mark, settled_afte
 -- what a record is, as far as the settled map goes
 data IsSome (content : LogRec) : Type 0 where
   mark : is_mark content ≡ true → IsSome content
-  write : can_be_undone content ≡ true → is_decide content ≡ false → IsSome content
-  undo : (number : ℕ) → undoes number content ≡ true → is_end content ≡ false → is_decide content ≡ false → IsSome content
+  write : can_be_undone content ≡ true → (is_mark content || is_end content) ≡ false → is_decide content ≡ false → IsSome content
+  undo : (number : ℕ) → undoes number content ≡ true → (is_mark content || is_end content) ≡ false → is_decide content ≡ false → IsSome content
   end : is_end content ≡ true → IsSome content
 
 kind_of : (content : LogRec) → IsSome content
 kind_of (Touch txn table key mode) = mark refl
-kind_of (Set txn table key before old new) = write refl refl
-kind_of (Add txn table key before amount) = write refl refl
+kind_of (Set txn table key before old new) = write refl refl refl
+kind_of (Add txn table key before amount) = write refl refl refl
 kind_of (Comp txn table key before undone form) = undo undone (eq-eqb undone undone refl) refl refl
 kind_of (Prepared txn) = mark refl
 kind_of (End txn commit) = end refl
@@ -47,25 +47,25 @@ is_open-rest seen txn first others rest running =
     ∙ has_begun-at is.before first is.after (can_be_undone-opens first.content (and_parts _ _ parts.1).0))
     (not_from_false _ running)
 
--- one more lawful record, which is an End where its transaction is a member
+-- one more lawful record, which is a mark or an End where its transaction is a member
 pub settled_after_lawful : (history : List TxnId) (seen : List LogEntry) (entry : LogEntry) (n : ℕ) (place : Place) → IsNumberedFrom n (seen ++ entry ∷ []) → IsLawfulLog history seen →
-    IsLawful history seen entry → (is_among (txn_of entry.content) history ≡ true → is_end entry.content ≡ true) → settled (seen ++ entry ∷ []) history place ≡ settled seen history place
+    IsLawful history seen entry → (is_among (txn_of entry.content) history ≡ true → (is_mark entry.content || is_end entry.content) ≡ true) → settled (seen ++ entry ∷ []) history place ≡ settled seen history place
 settled_after_lawful history seen entry n place numbers before lawful members =
     elim (kind_of entry.content) [
       | mark marks ↦ settled_after_mark seen entry history place marks
-      | write undoable no_decide ↦
+      | write undoable busy no_decide ↦
           settled_after_write seen entry history place undoable (lawful.unended no_decide)
-          (outside (write_end entry.content undoable))
+          (outside busy)
           (is_undone-next n seen entry.number parts.0 (undoes_in_order-after history [] seen before) (omega (arith, parts.1.0)))
           (lawful.reversible undoable)
-      | undo number names no_end no_decide ↦ undoing (lawful.in_order number names) (outside no_end) (lawful.unended no_decide)
+      | undo number names busy no_decide ↦ undoing (lawful.in_order number names) (outside busy) (lawful.unended no_decide)
       | end ends ↦ settled_after_end seen entry history place ends (lawful.settles ends)
     ]
   where
     parts : IsNumberedFrom n seen × IsNumberedFrom (n + length seen) (entry ∷ [])
     parts = IsNumberedFrom-append n seen (entry ∷ []) numbers
 
-    outside : is_end entry.content ≡ false → is_among (txn_of entry.content) history ≡ false
+    outside : (is_mark entry.content || is_end entry.content) ≡ false → is_among (txn_of entry.content) history ≡ false
     outside f = false_from_ne_true _ (λ member. both_ways _ f (members member))
 
     undoing : UndoesFirst seen entry.content → is_among (txn_of entry.content) history ≡ false → has_ended seen (txn_of entry.content) ≡ false →
@@ -84,7 +84,7 @@ settled_after_lost history seen (x ∷ xs) n place any numbers before lawful mem
     let numbers' = subst (IsNumberedFrom n) (sym again) numbers in
     ap (λ es. settled es history place) (sym again)
     ∙ settled_after_lost history (seen ++ x ∷ []) xs n place (any ++ x ∷ []) numbers' (EachAfter_push (IsLawful history) [] seen x before lawful.0) lawful.1 members.1
-    ∙ settled_after_lawful history seen x n place (IsNumberedFrom-append n (seen ++ x ∷ []) xs numbers').0 before lawful.0 members.0
+    ∙ settled_after_lawful history seen x n place (IsNumberedFrom-append n (seen ++ x ∷ []) xs numbers').0 before lawful.0 (λ member. or_right _ _ (members.0 member))
 
 -- a beginning of a lawful log that has all records of members but their Ends settles as the log does
 pub settled-beginning : (history : List TxnId) (entries front lost : List LogEntry) (n : ℕ) → IsNumberedFrom n entries → IsLawfulLog history entries →

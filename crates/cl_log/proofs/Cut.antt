@@ -57,7 +57,7 @@ unbegun_where_absent : (txn : TxnId) (xs : List LogEntry) → is_absent txn xs �
 unfolding has_begun
 unbegun_where_absent txn xs h = absent-has_record opens txn xs h
 
-strongest_mode-append : (below kept : List LogEntry) (txn : TxnId) (place : Place) → strongest_mode (below ++ kept) txn place ≡ fold (mode_after txn place) (strongest_mode below txn place) kept
+pub strongest_mode-append : (below kept : List LogEntry) (txn : TxnId) (place : Place) → strongest_mode (below ++ kept) txn place ≡ fold (mode_after txn place) (strongest_mode below txn place) kept
 unfolding strongest_mode
 strongest_mode-append below kept txn place = fold-append (mode_after txn place) None below kept
 

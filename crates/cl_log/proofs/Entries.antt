@@ -56,3 +56,8 @@ fronts (x ∷ xs) us (y ∷ ys) vs e =
 pub append_cancel : (xs us vs : List LogEntry) → xs ++ us ≡ xs ++ vs → us ≡ vs
 append_cancel [] us vs e = e
 append_cancel (x ∷ xs) us vs e = append_cancel xs us vs cc
+
+-- what follows from it holds of each entry too
+pub EachAfter-weaker : (P Q : List LogEntry → LogEntry → Type 0) → ((seen : List LogEntry) (x : LogEntry) → P seen x → Q seen x) → (seen xs : List LogEntry) → EachAfter P seen xs → EachAfter Q seen xs
+EachAfter-weaker P Q weaker seen [] h = tt
+EachAfter-weaker P Q weaker seen (x ∷ xs) h = (weaker seen x h.0, EachAfter-weaker P Q weaker (seen ++ x ∷ []) xs h.1)

@@ -106,7 +106,7 @@ strongest_exclusive txn place (x ∷ xs) =
       | inr f ↦ ap (λ m. fold (mode_after txn place) m xs) (cond-false _ (Some Exclusive) (Some Exclusive) f) ∙ strongest_exclusive txn place xs
     ]
 
-mode_at-write : (place : Place) (content : LogRec) → can_be_undone content ≡ true → writes place content ≡ true → mode_at place content ≡ Some Exclusive
+pub mode_at-write : (place : Place) (content : LogRec) → can_be_undone content ≡ true → writes place content ≡ true → mode_at place content ≡ Some Exclusive
 mode_at-write place (Set txn table key before old new) h k = cond-true _ _ _ k
 mode_at-write place (Add txn table key before amount) h k = cond-true _ _ _ k
 mode_at-write place content h k = absurd (false≢true h)

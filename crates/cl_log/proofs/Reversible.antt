@@ -21,7 +21,7 @@ less_of_sum : (a b : ℤ) → (a +ℤ b) +ℤ neg_ℤ b ≡ a
 less_of_sum a b = omega (arith, ints)
 
 -- a number and an amount, with their sum within 64 bits
-add_then_less : (value : List ℕ) (augend amount : ℤ) → number value ≡ Some augend → is_signed_64 (augend +ℤ amount) ≡ true → less amount (plain_value (PlainAdd amount) (Some value)) ≡ Some value
+pub add_then_less : (value : List ℕ) (augend amount : ℤ) → number value ≡ Some augend → is_signed_64 (augend +ℤ amount) ≡ true → less amount (plain_value (PlainAdd amount) (Some value)) ≡ Some value
 add_then_less value augend amount reads within =
     let text = number-text value augend reads in
     ap (less amount) (ap (λ n. add_value (Some value) n amount) reads ∙ cond-true _ _ _ within)

@@ -1,0 +1,4 @@
+pub mod Operations
+pub mod Ledger
+pub mod Steps
+pub mod Laws

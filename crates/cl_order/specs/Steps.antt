@@ -1,0 +1,141 @@
+-- The steps that change a ledger.
+use Rattle.std.specs.Prelude.{◌≡◌, ℕ, ◌+◌, Bool, true, false, ◌==◌, if◌then◌else◌, List, [], ◌∷◌, ◌++◌, length, Option, Some, None, fold}
+use Rattle.cl_types.specs.declared.operations.Op.{Op}
+use Rattle.cl_types.specs.declared.operations.TxnId.{TxnId}
+use Rattle.cl_types.specs.declared.answers.Outcome.TheVariants.{Done}
+use Rattle.cl_types.specs.Modes.{is_conflict}
+use Rattle.cl_types.specs.Places.{Place}
+use Rattle.cl_types.specs.Plain.{plain_reply}
+use Rattle.cl_types.specs.Transactions.{same_txn}
+use Rattle.cl_log.specs.declared.records.LogRec.{LogRec}
+use Rattle.cl_log.specs.declared.records.LogRec.TheVariants.{Prepared, End, Decide}
+use Rattle.cl_log.specs.LogEntry.{LogEntry}
+use Rattle.cl_log.specs.Kind.{txn_of, number_before, undoes as names_as_undone, writes}
+use Rattle.cl_log.specs.Lawful.{UndoesFirst, LosesEndsOfMembers}
+use Rattle.cl_log.specs.Open.{has_ended, is_among}
+use Rattle.cl_log.specs.Rest.{rest_to_undo}
+use Rattle.cl_log.specs.Store.{CarriesNumberBefore}
+use Rattle.cl_serial.specs.PlainMap.{Operation}
+use Rattle.cl_order.specs.Operations.{mode_of, is_held, record_of}
+use Rattle.cl_order.specs.Ledger.{Ledger, log_at, stored_at, lock_at, IsWhole}
+
+pub data Step : Type 0 where
+  -- a transaction carries out an operation at a place
+  carry_out : TxnId → Place → Op → Step
+  -- a Prepared of a transaction is appended to the log of a virtual node
+  prepare : ℕ → TxnId → Step
+  -- a Decide
+  decide : ℕ → TxnId → Step
+  -- a transaction joins the history
+  join : TxnId → Step
+  -- a compensation
+  undo : ℕ → LogRec → Step
+  -- an End, committed or not
+  finish : ℕ → TxnId → Bool → Step
+  -- the log of a virtual node loses its last records, and these are left
+  cut : ℕ → List LogEntry → Step
+
+-- the log with one more record, under the next number
+abbrev pub log_with : List LogEntry → LogRec → List LogEntry
+log_with log content = log ++ record { number = length log + 1; content = content } ∷ []
+
+-- the same, where there is a record
+abbrev pub log_with_optional : List LogEntry → Option LogRec → List LogEntry
+log_with_optional log None = log
+log_with_optional log (Some content) = log_with log content
+
+-- the logs, with this one at the virtual node
+abbrev pub logs_with : (ℕ → List LogEntry) → ℕ → List LogEntry → ℕ → List LogEntry
+logs_with logs v log u = if u == v then log else logs u
+
+-- the operations, with one more of the transaction
+abbrev pub done_with : (TxnId → List Operation) → TxnId → Operation → TxnId → List Operation
+done_with done txn operation other = if same_txn other txn then done other ++ operation ∷ [] else done other
+
+-- the operation with the reply that it has now
+abbrev pub operation_now : Ledger → Place → Op → Operation
+operation_now ledger place op = record { place = place; op = op; outcome = Some (Done (plain_reply op (stored_at ledger place).1)) }
+
+-- the record that it leaves now
+abbrev pub record_now : Ledger → TxnId → Place → Op → Option LogRec
+record_now ledger txn place op = record_of txn place op (stored_at ledger place) (lock_at ledger txn place)
+
+-- with this log at the virtual node
+abbrev pub with_log : Ledger → ℕ → List LogEntry → Ledger
+with_log ledger v log = record { on = ledger.on; logs = logs_with ledger.logs v log; history = ledger.history; done = ledger.done }
+
+-- with the operation carried out
+abbrev pub with_operation : Ledger → TxnId → Place → Op → Ledger
+with_operation ledger txn place op = record {
+  on = ledger.on;
+  logs = logs_with ledger.logs (ledger.on place) (log_with_optional (log_at ledger place) (record_now ledger txn place op));
+  history = ledger.history;
+  done = done_with ledger.done txn (operation_now ledger place op);
+}
+
+-- with one more member
+abbrev pub with_member : Ledger → TxnId → Ledger
+with_member ledger txn = record { on = ledger.on; logs = ledger.logs; history = ledger.history ++ txn ∷ []; done = ledger.done }
+
+-- the ledger after a step
+abbrev pub after_step : Ledger → Step → Ledger
+after_step ledger (carry_out txn place op) = with_operation ledger txn place op
+after_step ledger (prepare v txn) = with_log ledger v (log_with (ledger.logs v) (Prepared txn))
+after_step ledger (decide v txn) = with_log ledger v (log_with (ledger.logs v) (Decide txn))
+after_step ledger (join txn) = with_member ledger txn
+after_step ledger (undo v content) = with_log ledger v (log_with (ledger.logs v) content)
+after_step ledger (finish v txn commit) = with_log ledger v (log_with (ledger.logs v) (End txn commit))
+after_step ledger (cut v front) = with_log ledger v front
+
+-- an operation may be carried out: its transaction has not ended, and its lock is held already or free
+pub record MayCarryOut (ledger : Ledger) (txn : TxnId) (place : Place) (op : Op) : Type 0 where
+  pub outside : is_among txn ledger.history ≡ false
+  pub unended : has_ended (log_at ledger place) txn ≡ false
+  pub free : is_held (lock_at ledger txn place) (mode_of op) ≡ false → (other : TxnId) → is_conflict (Some (mode_of op)) (lock_at ledger other place) ≡ true → other ≡ txn
+
+-- a transaction may join: it is whole, and no member yet
+pub record MayJoin (ledger : Ledger) (txn : TxnId) : Type 0 where
+  pub outside : is_among txn ledger.history ≡ false
+  pub whole : IsWhole ledger txn
+
+-- a compensation may be appended: it undoes the first of the rest of a transaction that is no member and has not ended
+pub record MayUndo (ledger : Ledger) (v : ℕ) (content : LogRec) : Type 0 where
+  pub outside : is_among (txn_of content) ledger.history ≡ false
+  pub unended : has_ended (ledger.logs v) (txn_of content) ≡ false
+  pub first : UndoesFirst (ledger.logs v) content
+  pub carries : CarriesNumberBefore (ledger.logs v) (record { number = length (ledger.logs v) + 1; content = content })
+
+-- an End may be appended: it says whether its transaction is a member, and leaves nothing to undo of one that is not
+pub record MayFinish (ledger : Ledger) (v : ℕ) (txn : TxnId) (commit : Bool) : Type 0 where
+  pub member : is_among txn ledger.history ≡ commit
+  pub unended : has_ended (ledger.logs v) txn ≡ false
+  pub undone : commit ≡ false → rest_to_undo (ledger.logs v) txn ≡ []
+
+-- an end may be lost: of members nothing is lost but Ends
+pub record MayCut (ledger : Ledger) (v : ℕ) (front : List LogEntry) : Type 0 where
+  pub lost : List LogEntry
+  pub whole : ledger.logs v ≡ front ++ lost
+  pub ends : LosesEndsOfMembers ledger.history lost
+
+-- what a step needs
+abbrev pub IsEnabled : Ledger → Step → Type 0
+IsEnabled ledger (carry_out txn place op) = MayCarryOut ledger txn place op
+IsEnabled ledger (prepare v txn) = has_ended (ledger.logs v) txn ≡ false
+IsEnabled ledger (decide v txn) = Unit {0}
+IsEnabled ledger (join txn) = MayJoin ledger txn
+IsEnabled ledger (undo v content) = MayUndo ledger v content
+IsEnabled ledger (finish v txn commit) = MayFinish ledger v txn commit
+IsEnabled ledger (cut v front) = MayCut ledger v front
+
+-- the ledger after steps, one after another
+abbrev pub after_steps : Ledger → List Step → Ledger
+after_steps ledger steps = fold after_step ledger steps
+
+-- each step has what it needs in its turn
+abbrev pub AreEnabled : Ledger → List Step → Type 0
+AreEnabled ledger [] = Unit {0}
+AreEnabled ledger (step ∷ steps) = IsEnabled ledger step × AreEnabled (after_step ledger step) steps
+
+-- the ledger before any step
+abbrev pub new_ledger : (Place → ℕ) → Ledger
+new_ledger on = record { on = on; logs = λ v. []; history = []; done = λ txn. [] }

@@ -1,0 +1,6 @@
+//! What holds of ledgers.
+ghost use Rattle.cl_order.specs.Laws.{Temporary};
+
+pub fn temporary()
+    ensures { Temporary }
+{}
