@@ -24,6 +24,10 @@ is_held-asked (Some Exclusive) mode = refl
 is_held-asked (Some Shared) Shared = refl
 is_held-asked (Some Shared) Exclusive = refl
 
+pub is_held-itself : (mode : Mode) → is_held (Some mode) mode ≡ true
+is_held-itself Shared = refl
+is_held-itself Exclusive = refl
+
 pub held_none : (mode : Mode) → is_held None mode ≡ true → ⊥
 held_none mode h = false≢true h
 

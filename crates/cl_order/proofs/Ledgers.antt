@@ -2,7 +2,7 @@
 use Rattle.std.proofs.Common.{◌≡◌, ◌≢◌, ℕ, ◌+◌, Bool, true, false, cond, eqb, List, [], ◌∷◌, ◌++◌, Option, Some, None, refl, sym, ap, ◌∙◌, subst, inl, inr}
 use Rattle.std.specs.Prelude.{slice_index_or}
 use Rattle.std.specs.List.{IsDistinct, All, list_any, flat_map, fold}
-use Rattle.std.proofs.lemmas.Bool.{cond-true, cond-false, cases_Bool, both_ways, eqb-true, eq-eqb, or_parts, or_cases, or_left, false≢true, false_from_ne_true}
+use Rattle.std.proofs.lemmas.Bool.{cond-true, cond-false, cases_Bool, both_ways, eqb-true, eq-eqb, or_parts, or_cases, or_left, false≢true, false_from_ne_true, true_from_ne_false, and_from, not_from_false}
 use Rattle.std.proofs.lemmas.List.Elements.{All-weaker, All-head, All-tail, All-nil, All-cons}
 use Rattle.cl_types.specs.declared.operations.Mode.{Mode}
 use Rattle.cl_types.specs.declared.operations.Mode.TheVariants.{Exclusive}
@@ -19,10 +19,12 @@ use Rattle.cl_log.specs.Locks.{mode_at, mode_after, strongest_mode, locks_of_log
 use Rattle.cl_log.specs.Open.{has_begun, has_ended, is_open, is_among}
 use Rattle.cl_log.specs.Settled.{settled}
 use Rattle.cl_log.specs.Store.{store_of_log}
+use Rattle.cl_log.proofs.Locks.{strongest_mode-unbegun}
 use Rattle.cl_serial.specs.PlainMap.{Values, Operation, no_values, after_operations, RepliesAgree}
 use Rattle.cl_order.specs.Ledger.{Ledger, log_at, member_operations, values_of, has_operation_at, LocksForOperation, IsOrdered, operations_on, IsWholeOn, IsWhole}
 use Rattle.cl_order.specs.Operations.{mode_of, is_held}
 use Rattle.cl_order.specs.Steps.{logs_with, with_log}
+use Rattle.cl_order.proofs.Held.{held_none}
 use Rattle.cl_order.proofs.OneLog.{HasLock, IsOrderedOn}
 use Rattle.cl_order.proofs.OneWhole.{HoldsAt, IsWholeAt, Keeps, whole_kept}
 use Rattle.cl_order.proofs.Replays.{value_through, AgreeAt, after_operations-at, agree_on, agree_on_from, AgreeAt-none, value_through-reads}
@@ -133,6 +135,28 @@ whole_everywhere ledger txn ordered whole place =
       | inr f ↦ whole_without ledger.done txn place (values_of ledger place) (log_at ledger place) f (ordered.for_operations (ledger.on place))
     ]
 
+-- ---- locks that are held, and the strongest of a transaction's records
+
+pub strongest_where_locked : (log : List LogEntry) (txn : TxnId) (place : Place) (mode : Mode) → is_held (locks_of_log log txn place) mode ≡ true → is_held (strongest_mode log txn place) mode ≡ true
+unfolding locks_of_log
+strongest_where_locked log txn place mode held =
+    elim (cases_Bool (is_open log txn)) [
+      | inl t ↦ ap (λ m. is_held m mode) (sym (cond-true _ (strongest_mode log txn place) None t)) ∙ held
+      | inr f ↦ absurd (held_none mode (sym (ap (λ m. is_held m mode) (cond-false _ (strongest_mode log txn place) None f)) ∙ held))
+    ]
+
+-- until its End a transaction holds the strongest
+pub locked_where_strongest : (log : List LogEntry) (txn : TxnId) (place : Place) (mode : Mode) → is_held (strongest_mode log txn place) mode ≡ true → has_ended log txn ≡ false →
+    is_held (locks_of_log log txn place) mode ≡ true
+unfolding locks_of_log
+locked_where_strongest log txn place mode held running =
+    ap (λ m. is_held m mode)
+    (cond-true _ (strongest_mode log txn place) None
+    (and_from _ _
+    (true_from_ne_false _ (λ unbegun. held_none mode (sym (ap (λ m. is_held m mode) (strongest_mode-unbegun log txn place unbegun)) ∙ held)))
+    (not_from_false _ running)))
+    ∙ held
+
 -- ---- another log at one virtual node
 
 pub logs_with-each : (P : ℕ → List LogEntry → Type 0) (logs : ℕ → List LogEntry) (v : ℕ) (log : List LogEntry) → P v log → ((u : ℕ) → P u (logs u)) → (u : ℕ) → P u (logs_with logs v log u)
@@ -148,17 +172,19 @@ ordered_with_log ledger v log ordered here =
     (logs_with-each (IsOrderedOn ledger.on ledger.history ledger.done (values_of ledger)) ledger.logs v log here (ordered_on ledger ordered))
     ordered.replies ordered.distinct
 
+pub whole_at_log : (ledger : Ledger) (v : ℕ) (log : List LogEntry) (txn : TxnId) (u : ℕ) (place : Place) (value : Option (List ℕ)) (list : List Operation) → (u ≡ v → Keeps (ledger.logs v) log txn place) →
+    IsWholeAt (ledger.logs u) txn place value list → IsWholeAt (logs_with ledger.logs v log u) txn place value list
+whole_at_log ledger v log txn u place value list keeps whole =
+    elim (cases_Bool (eqb u v)) [
+      | inl t ↦
+          let same = eqb-true u v t in
+          subst (λ es. IsWholeAt es txn place value list) (sym (cond-true _ log (ledger.logs u) t))
+          (whole_kept (ledger.logs u) log txn place value list (subst (λ w. Keeps (ledger.logs w) log txn place) (sym same) (keeps same)) whole)
+      | inr f ↦ subst (λ es. IsWholeAt es txn place value list) (sym (cond-false _ log (ledger.logs u) f)) whole
+    ]
+
 pub whole_with_log : (ledger : Ledger) (v : ℕ) (log : List LogEntry) (txn : TxnId) (u : ℕ) → (u ≡ v → (place : Place) → ledger.on place ≡ v → Keeps (ledger.logs v) log txn place) → IsWholeOn ledger txn u →
     IsWholeOn (with_log ledger v log) txn u
 whole_with_log ledger v log txn u keeps whole =
     whole_from (with_log ledger v log) txn u (λ place here.
-    elim (cases_Bool (eqb u v)) [
-      | inl t ↦
-          let same = eqb-true u v t in
-          subst (λ es. IsWholeAt es txn place (values_of ledger place) (ledger.done txn)) (sym (cond-true _ log (ledger.logs u) t))
-          (whole_kept (ledger.logs u) log txn place (values_of ledger place) (ledger.done txn)
-          (subst (λ w. Keeps (ledger.logs w) log txn place) (sym same) (keeps same place (here ∙ same)))
-          (whole_at ledger txn u whole place here))
-      | inr f ↦
-          subst (λ es. IsWholeAt es txn place (values_of ledger place) (ledger.done txn)) (sym (cond-false _ log (ledger.logs u) f)) (whole_at ledger txn u whole place here)
-    ])
+    whole_at_log ledger v log txn u place (values_of ledger place) (ledger.done txn) (λ same. keeps same place (here ∙ same)) (whole_at ledger txn u whole place here))

@@ -5,3 +5,4 @@ pub mod Lawful
 pub mod OneLog
 pub mod OneWhole
 pub mod Ledgers
+pub mod StepLemmas
