@@ -1,26 +1,24 @@
 -- Records that the steps append are lawful.
-use Rattle.std.proofs.Common.{◌≡◌, ◌≢◌, ℕ, ◌⊎◌, Bool, true, false, cond, eqb, List, [], ◌∷◌, ◌++◌, Option, Some, None, refl, sym, ap, ◌∙◌, subst, inl, inr}
-use Rattle.std.specs.List.{list_any}
-use Rattle.std.proofs.lemmas.Bool.{cond-true, cond-false, cases_Bool, false≢true, true≢false, both_ways, and_parts, or_right, or_left}
-use Rattle.std.proofs.lemmas.List.Folds.{list_any-append}
+use Rattle.std.proofs.Common.{◌≡◌, ◌≢◌, ℕ, ◌⊎◌, Bool, true, false, List, [], Option, Some, None, refl, sym, ap, ◌∙◌, subst}
+use Rattle.std.proofs.lemmas.Bool.{false≢true, true≢false, both_ways, and_parts}
 use Rattle.cl_types.specs.declared.operations.Mode.{Mode}
 use Rattle.cl_types.specs.declared.operations.Op.{Op}
 use Rattle.cl_types.specs.declared.operations.TxnId.{TxnId}
 use Rattle.cl_types.specs.Modes.{is_conflict}
-use Rattle.cl_types.specs.Places.{Place, Stored, same_place}
+use Rattle.cl_types.specs.Places.{Place, same_place}
 use Rattle.cl_types.proofs.Places.{same_place-true, same_place-itself}
 use Rattle.cl_log.specs.declared.records.LogRec.{LogRec}
 use Rattle.cl_log.specs.declared.records.LogRec.TheVariants.{Touch, Set, Add, Comp, Prepared, End, Decide}
 use Rattle.cl_log.specs.LogEntry.{LogEntry}
-use Rattle.cl_log.specs.Kind.{txn_of, is_end, is_mark, can_be_undone, undoes, writes, number_before}
-use Rattle.cl_log.specs.Lawful.{IsLawful, UndoesFirst, is_decide}
+use Rattle.cl_log.specs.Kind.{txn_of, is_end, can_be_undone, writes, number_before}
+use Rattle.cl_log.specs.Lawful.{IsLawful, UndoesFirst}
 use Rattle.cl_log.specs.Locks.{mode_at, locks_of_log, HasNoConflict}
 use Rattle.cl_log.specs.Open.{has_ended, is_among}
 use Rattle.cl_log.specs.Rest.{rest_to_undo, undo_of}
 use Rattle.cl_log.specs.Settled.{value_undone}
 use Rattle.cl_log.specs.Store.{value_after, store_of_log, CarriesNumberBefore}
 use Rattle.cl_log.proofs.Places.{IsAt, writes-at, mode_at-elsewhere}
-use Rattle.cl_log.proofs.Rest.{first_of_rest_is, undoes-undo_of}
+use Rattle.cl_log.proofs.Rest.{first_of_rest_is}
 use Rattle.cl_serial.specs.PlainMap.{Operation}
 use Rattle.cl_order.specs.Ledger.{has_operation_at, LocksForOperation}
 use Rattle.cl_order.specs.Operations.{mode_of, is_held}

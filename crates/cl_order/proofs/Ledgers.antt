@@ -1,8 +1,8 @@
 -- A ledger, seen by virtual nodes and by places.
-use Rattle.std.proofs.Common.{◌≡◌, ◌≢◌, ℕ, ◌+◌, Bool, true, false, cond, eqb, List, [], ◌∷◌, ◌++◌, Option, Some, None, refl, sym, ap, ◌∙◌, subst, inl, inr}
+use Rattle.std.proofs.Common.{◌≡◌, ◌≢◌, ℕ, Bool, true, false, eqb, List, [], ◌∷◌, ◌++◌, Option, Some, None, refl, sym, ap, ◌∙◌, subst, inl, inr}
 use Rattle.std.specs.Prelude.{slice_index_or}
-use Rattle.std.specs.List.{IsDistinct, All, list_any, flat_map, fold}
-use Rattle.std.proofs.lemmas.Bool.{cond-true, cond-false, cases_Bool, both_ways, eqb-true, eq-eqb, or_parts, or_cases, or_left, false≢true, false_from_ne_true, true_from_ne_false, and_from, not_from_false}
+use Rattle.std.specs.List.{IsDistinct, All, fold}
+use Rattle.std.proofs.lemmas.Bool.{cond-true, cond-false, cases_Bool, both_ways, eqb-true, or_parts, or_cases, false≢true, true_from_ne_false, and_from, not_from_false}
 use Rattle.std.proofs.lemmas.List.Elements.{All-weaker, All-head, All-tail, All-nil, All-cons}
 use Rattle.cl_types.specs.declared.operations.Mode.{Mode}
 use Rattle.cl_types.specs.declared.operations.Mode.TheVariants.{Exclusive}
@@ -16,18 +16,17 @@ use Rattle.cl_types.proofs.Transactions.{same_txn-true}
 use Rattle.cl_log.specs.LogEntry.{LogEntry, EachAfter}
 use Rattle.cl_log.specs.Kind.{txn_of, is_of}
 use Rattle.cl_log.specs.Locks.{mode_at, mode_after, strongest_mode, locks_of_log}
-use Rattle.cl_log.specs.Open.{has_begun, has_ended, is_open, is_among}
+use Rattle.cl_log.specs.Open.{has_ended, is_open}
 use Rattle.cl_log.specs.Settled.{settled}
-use Rattle.cl_log.specs.Store.{store_of_log}
 use Rattle.cl_log.proofs.Locks.{strongest_mode-unbegun}
-use Rattle.cl_serial.specs.PlainMap.{Values, Operation, no_values, after_operations, RepliesAgree}
-use Rattle.cl_order.specs.Ledger.{Ledger, log_at, member_operations, values_of, has_operation_at, LocksForOperation, IsOrdered, operations_on, IsWholeOn, IsWhole}
+use Rattle.cl_serial.specs.PlainMap.{Operation, no_values, RepliesAgree}
+use Rattle.cl_order.specs.Ledger.{Ledger, log_at, member_operations, values_of, has_operation_at, LocksForOperation, IsOrdered, IsWholeOn, IsWhole}
 use Rattle.cl_order.specs.Operations.{mode_of, is_held}
 use Rattle.cl_order.specs.Steps.{logs_with, with_log}
 use Rattle.cl_order.proofs.Held.{held_none}
 use Rattle.cl_order.proofs.OneLog.{HasLock, IsOrderedOn}
 use Rattle.cl_order.proofs.OneWhole.{HoldsAt, IsWholeAt, Keeps, whole_kept}
-use Rattle.cl_order.proofs.Replays.{value_through, AgreeAt, after_operations-at, agree_on, agree_on_from, AgreeAt-none, value_through-reads}
+use Rattle.cl_order.proofs.Replays.{after_operations-at, agree_on, agree_on_from, AgreeAt-none}
 
 -- ---- one log after another
 

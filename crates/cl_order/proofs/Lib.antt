@@ -6,3 +6,4 @@ pub mod OneLog
 pub mod OneWhole
 pub mod Ledgers
 pub mod StepLemmas
+pub mod LawLemmas

@@ -1,7 +1,7 @@
 -- A transaction that is whole at one place, step by step.
-use Rattle.std.proofs.Common.{◌≡◌, ◌≢◌, ℕ, ◌+◌, ◌⊎◌, Bool, true, false, not, cond, ◌||◌, List, [], ◌∷◌, ◌++◌, length, Option, Some, None, refl, sym, ap, ◌∙◌, subst, inl, inr, arith}
+use Rattle.std.proofs.Common.{◌≡◌, ◌≢◌, ℕ, ◌⊎◌, Bool, true, false, cond, List, [], ◌∷◌, ◌++◌, Option, Some, None, refl, sym, ap, ◌∙◌, subst, inl, inr}
 use Rattle.std.specs.List.{All}
-use Rattle.std.proofs.lemmas.Bool.{cond-true, cond-false, cases_Bool, both_ways, false≢true, true≢false, and_parts, eq-eqb, false_from_ne_true}
+use Rattle.std.proofs.lemmas.Bool.{cond-true, cond-false, both_ways, false≢true, and_parts, eq-eqb, false_from_ne_true}
 use Rattle.std.proofs.lemmas.List.{append_assoc, append-nil}
 use Rattle.std.proofs.lemmas.List.Elements.{All-weaker, All-push}
 use Rattle.cl_types.specs.declared.operations.Mode.{Mode}
@@ -15,16 +15,16 @@ use Rattle.cl_types.specs.Transactions.{same_txn}
 use Rattle.cl_types.specs.Plain.{plain_reply, plain_value}
 use Rattle.cl_types.proofs.Modes.{stronger-none}
 use Rattle.cl_types.proofs.Places.{same_place-true, same_place-itself}
-use Rattle.cl_types.proofs.Transactions.{same_txn-itself, same_txn-true}
+use Rattle.cl_types.proofs.Transactions.{same_txn-itself}
 use Rattle.cl_log.specs.declared.records.LogRec.{LogRec}
 use Rattle.cl_log.specs.declared.records.LogRec.TheVariants.{Touch, Set, Add, Comp, Prepared, End, Decide}
 use Rattle.cl_log.specs.LogEntry.{LogEntry, EachAfter}
 use Rattle.cl_log.specs.Kind.{txn_of, is_of, is_end, can_be_undone, undoes, writes, number_before}
 use Rattle.cl_log.specs.Lawful.{IsLawful, IsLawfulLog, UndoesFirst, is_decide}
-use Rattle.cl_log.specs.Locks.{mode_at, locks_of_log, locks_after, takes_lock, HasNoConflict}
-use Rattle.cl_log.specs.Open.{has_ended, is_open, is_among}
+use Rattle.cl_log.specs.Locks.{mode_at, locks_of_log, locks_after, takes_lock}
+use Rattle.cl_log.specs.Open.{has_ended, is_open}
 use Rattle.cl_log.specs.Settled.{settled}
-use Rattle.cl_log.specs.Store.{value_after, stored_after, store_of_log}
+use Rattle.cl_log.specs.Store.{value_after, store_of_log}
 use Rattle.cl_log.proofs.Beginnings.{is_open-rest}
 use Rattle.cl_log.proofs.Conflicts.{HasNoConflict-lawful, locks_after_lawful}
 use Rattle.cl_log.proofs.Entries.{EachAfter_push}
@@ -36,9 +36,8 @@ use Rattle.cl_log.proofs.Store.{store_of_log_other, store_of_log_push}
 use Rattle.cl_serial.specs.PlainMap.{Operation}
 use Rattle.cl_order.specs.Operations.{mode_of, is_held}
 use Rattle.cl_order.proofs.Held.{is_held-stronger, is_held-asked, held_none, conflict_with_exclusive, read_under}
-use Rattle.cl_order.proofs.Lawful.{locks_elsewhere, writes_elsewhere}
 use Rattle.cl_order.proofs.Records.{Fits, FitsNothing}
-use Rattle.cl_order.proofs.Replays.{value_after_one, value_through, AgreesAt, AgreeAt, value_through-push, AgreeAt-push, ReadsAt, value_through-reads, AgreeAt-none}
+use Rattle.cl_order.proofs.Replays.{value_through, AgreeAt, value_through-push, AgreeAt-push, ReadsAt, value_through-reads, AgreeAt-none}
 
 -- what an operation at the place needs of the log
 abbrev pub HoldsAt : List LogEntry → TxnId → Place → Operation → Type 0

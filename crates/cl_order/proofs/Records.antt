@@ -1,5 +1,5 @@
 -- What the record of an operation is, writes and locks.
-use Rattle.std.proofs.Common.{◌≡◌, ◌≢◌, ℕ, Bool, true, false, cond, List, Option, Some, None, ℤ, pos, ◌+ℤ◌, refl, sym, ap, ◌∙◌, subst, inl, inr}
+use Rattle.std.proofs.Common.{◌≡◌, ℕ, Bool, true, false, cond, List, Option, Some, None, ℤ, pos, ◌+ℤ◌, refl, sym, ap, ◌∙◌, subst, inl, inr}
 use Rattle.std.specs.Fmt.{signed_decimal}
 use Rattle.std.proofs.lemmas.Bool.{cond-true, cond-false, cases_Bool, false≢true}
 use Rattle.cl_types.specs.declared.operations.Mode.{Mode}
@@ -8,10 +8,10 @@ use Rattle.cl_types.specs.declared.operations.Op.{Op}
 use Rattle.cl_types.specs.declared.operations.Op.TheVariants.{Get, Put, Del, Add as PlainAdd}
 use Rattle.cl_types.specs.declared.operations.TxnId.{TxnId}
 use Rattle.cl_types.specs.declared.answers.Reply.{Reply}
-use Rattle.cl_types.specs.declared.answers.Reply.TheVariants.{Sum, OutOfRange, NotNumber}
+use Rattle.cl_types.specs.declared.answers.Reply.TheVariants.{Sum, OutOfRange}
 use Rattle.cl_types.specs.Decimal.{number, is_signed_64}
-use Rattle.cl_types.specs.Places.{Place, Stored, same_place}
-use Rattle.cl_types.specs.Plain.{augend, plain_reply, plain_value, add_reply, add_value}
+use Rattle.cl_types.specs.Places.{Place}
+use Rattle.cl_types.specs.Plain.{plain_reply, plain_value, add_reply, add_value}
 use Rattle.cl_types.proofs.Places.{same_place-itself}
 use Rattle.cl_log.specs.declared.records.LogRec.{LogRec}
 use Rattle.cl_log.specs.declared.records.LogRec.TheVariants.{Touch, Set, Add}
@@ -22,7 +22,7 @@ use Rattle.cl_log.specs.Settled.{value_undone}
 use Rattle.cl_log.specs.Store.{value_after}
 use Rattle.cl_log.proofs.Places.{IsAt}
 use Rattle.cl_log.proofs.Reversible.{add_then_less}
-use Rattle.cl_order.specs.Operations.{mode_of, is_held, touch_of, removal_of, sum_of, addition_of, record_of}
+use Rattle.cl_order.specs.Operations.{mode_of, is_held, touch_of, removal_of, addition_of, record_of}
 
 -- the record fits the operation
 pub record Fits (txn : TxnId) (place : Place) (op : Op) (before : ℕ) (value : Option (List ℕ)) (content : LogRec) : Type 0 where

@@ -86,9 +86,10 @@ module _ (on : Place → ℕ) (v : ℕ) where
         | inl t ↦ (let both = subst (AgreeAt place value) (cond-true _ (operation ∷ filter is_on list) (filter is_on list) t) h in
             (both.0, agree_of_filtered place (value_after_one place value operation) list here both.1))
         | inr f ↦ (
-            (λ same. absurd (off_is_apart place here operation f same)),
-            subst (λ w. AgreeAt place w list) (sym (off_leaves place value here operation f))
-            (agree_of_filtered place value list here (subst (AgreeAt place value) (cond-false _ (operation ∷ filter is_on list) (filter is_on list) f) h)))
+          (λ same. absurd (off_is_apart place here operation f same)),
+          subst (λ w. AgreeAt place w list) (sym (off_leaves place value here operation f))
+              (agree_of_filtered place value list here (subst (AgreeAt place value) (cond-false _ (operation ∷ filter is_on list) (filter is_on list) f) h)),
+        )
       ]
 
   filtered_agree : (place : Place) (value : Option (List ℕ)) (list : List Operation) → on place ≡ v → AgreeAt place value list → AgreeAt place value (filter is_on list)

@@ -1,11 +1,10 @@
 -- Each step keeps a ledger ordered, and leaves the transactions whole that it does not concern.
-use Rattle.std.proofs.Common.{◌≡◌, ◌≢◌, ℕ, ◌+◌, ◌⊎◌, Bool, true, false, cond, ◌||◌, eqb, List, [], ◌∷◌, ◌++◌, length, Option, Some, None, refl, sym, ap, ◌∙◌, subst, inl, inr}
+use Rattle.std.proofs.Common.{◌≡◌, ◌≢◌, ℕ, ◌+◌, Bool, true, false, eqb, List, [], ◌∷◌, ◌++◌, length, Option, Some, None, refl, sym, ap, ◌∙◌, subst, inl, inr}
 use Rattle.std.specs.Prelude.{slice_index_or}
-use Rattle.std.specs.List.{All, list_any, flat_map}
-use Rattle.std.proofs.lemmas.Bool.{cond-true, cond-false, cases_Bool, both_ways, eqb-true, eq-eqb, or_parts, or_left, or_right, false≢true, false_from_ne_true}
+use Rattle.std.specs.List.{All, flat_map}
+use Rattle.std.proofs.lemmas.Bool.{cond-true, cond-false, cases_Bool, both_ways, eq-eqb, or_parts, or_left, or_right, false≢true, false_from_ne_true}
 use Rattle.std.proofs.lemmas.List.{append-nil}
 use Rattle.std.proofs.lemmas.List.Concat.{flat_map-append}
-use Rattle.std.proofs.lemmas.List.Elements.{All-weaker}
 use Rattle.std.proofs.lemmas.List.Folds.{list_any-append}
 use Rattle.std.proofs.lemmas.List.Sums.{fold-append}
 use Rattle.std.proofs.lemmas.Map.Keys.{IsDistinct-push}
@@ -21,27 +20,25 @@ use Rattle.cl_types.proofs.Transactions.{same_txn-true, same_txn-itself, same_tx
 use Rattle.cl_log.specs.declared.records.LogRec.{LogRec}
 use Rattle.cl_log.specs.declared.records.LogRec.TheVariants.{Prepared, End, Decide}
 use Rattle.cl_log.specs.LogEntry.{LogEntry, EachAfter}
-use Rattle.cl_log.specs.Kind.{txn_of, is_of, is_end, is_mark}
+use Rattle.cl_log.specs.Kind.{txn_of, is_of}
 use Rattle.cl_log.specs.Lawful.{IsLawful, IsLawfulLog}
-use Rattle.cl_log.specs.Locks.{mode_at, strongest_mode, locks_of_log}
-use Rattle.cl_log.specs.Open.{has_ended, is_open, is_among}
+use Rattle.cl_log.specs.Locks.{mode_at, locks_of_log}
+use Rattle.cl_log.specs.Open.{has_ended, is_among}
 use Rattle.cl_log.specs.Settled.{settled}
-use Rattle.cl_log.specs.Store.{store_of_log}
 use Rattle.cl_log.proofs.Entries.{EachAfter-append}
-use Rattle.cl_log.proofs.Open.{or_false}
 use Rattle.cl_log.proofs.Settled.{settled_at-member, settled_with-elsewhere}
 use Rattle.cl_log.proofs.Unended.{same_txn_equivalence}
 use Rattle.cl_serial.specs.PlainMap.{Values, Operation, no_values, after_operation, after_operations, RepliesAgree}
 use Rattle.cl_serial.proofs.Replayed.{RepliesAgree-append}
-use Rattle.cl_order.specs.Ledger.{Ledger, log_at, stored_at, lock_at, member_operations, values_of, has_operation_at, LocksForOperation, IsOrdered, IsWholeOn, IsWhole}
-use Rattle.cl_order.specs.Operations.{mode_of, is_held, record_of}
+use Rattle.cl_order.specs.Ledger.{Ledger, log_at, stored_at, lock_at, member_operations, values_of, has_operation_at, LocksForOperation, IsOrdered, IsWholeOn}
+use Rattle.cl_order.specs.Operations.{mode_of, is_held}
 use Rattle.cl_order.specs.Steps.{log_with, log_with_optional, logs_with, done_with, operation_now, record_now, with_log, with_operation, with_member, MayCarryOut, MayJoin, MayUndo, MayFinish, MayCut}
-use Rattle.cl_order.proofs.Held.{held_none, is_held-itself, conflict_with_exclusive}
+use Rattle.cl_order.proofs.Held.{is_held-itself, conflict_with_exclusive}
 use Rattle.cl_order.proofs.Lawful.{lawful_prepared, lawful_decide, lawful_end, lawful_undo, lawful_operation, locks_for_operation, is_compensation, locks_elsewhere, writes_elsewhere}
 use Rattle.cl_order.proofs.Ledgers.{strongest_where_locked, ordered_on, ordered_from, whole_at, whole_from, whole_everywhere, logs_with-each, ordered_with_log, whole_with_log, whole_at_log}
 use Rattle.cl_order.proofs.OneLog.{HasLock, IsOrderedOn, ordered_push, ordered_cut, ordered_with_done, ordered_with_member, no_conflict_on}
-use Rattle.cl_order.proofs.OneWhole.{IsWholeAt, Keeps, Keeps-itself, Keeps-back, keeps_push, keeps_append, keeps_idle, whole_kept, whole_reads, whole_elsewhere, whole_push-elsewhere, whole_with_nothing, whole_with_record, replied}
-use Rattle.cl_order.proofs.Records.{Fits, FitsNothing, Fitting, record_fits}
+use Rattle.cl_order.proofs.OneWhole.{IsWholeAt, Keeps, Keeps-itself, Keeps-back, keeps_push, keeps_append, keeps_idle, whole_reads, whole_elsewhere, whole_push-elsewhere, whole_with_nothing, whole_with_record}
+use Rattle.cl_order.proofs.Records.{Fits, Fitting, record_fits}
 use Rattle.cl_order.proofs.Replays.{value_through, after_operations-at, agree_from_each}
 
 -- the next record of a log

@@ -1,5 +1,5 @@
 -- The steps that change a ledger.
-use Rattle.std.specs.Prelude.{◌≡◌, ℕ, ◌+◌, Bool, true, false, ◌==◌, if◌then◌else◌, List, [], ◌∷◌, ◌++◌, length, Option, Some, None, fold}
+use Rattle.std.specs.Prelude.{◌≡◌, ◌≢◌, ℕ, ◌+◌, Bool, true, false, ◌==◌, if◌then◌else◌, List, [], ◌∷◌, ◌++◌, length, Option, Some, None, fold}
 use Rattle.cl_types.specs.declared.operations.Op.{Op}
 use Rattle.cl_types.specs.declared.operations.TxnId.{TxnId}
 use Rattle.cl_types.specs.declared.answers.Outcome.TheVariants.{Done}
@@ -9,8 +9,8 @@ use Rattle.cl_types.specs.Plain.{plain_reply}
 use Rattle.cl_types.specs.Transactions.{same_txn}
 use Rattle.cl_log.specs.declared.records.LogRec.{LogRec}
 use Rattle.cl_log.specs.declared.records.LogRec.TheVariants.{Prepared, End, Decide}
-use Rattle.cl_log.specs.LogEntry.{LogEntry}
-use Rattle.cl_log.specs.Kind.{txn_of, number_before, undoes as names_as_undone, writes}
+use Rattle.cl_log.specs.LogEntry.{LogEntry, EachAfter}
+use Rattle.cl_log.specs.Kind.{txn_of, is_of}
 use Rattle.cl_log.specs.Lawful.{UndoesFirst, LosesEndsOfMembers}
 use Rattle.cl_log.specs.Open.{has_ended, is_among}
 use Rattle.cl_log.specs.Rest.{rest_to_undo}
@@ -126,6 +126,20 @@ IsEnabled ledger (join txn) = MayJoin ledger txn
 IsEnabled ledger (undo v content) = MayUndo ledger v content
 IsEnabled ledger (finish v txn commit) = MayFinish ledger v txn commit
 IsEnabled ledger (cut v front) = MayCut ledger v front
+
+-- of the transaction nothing is lost
+abbrev pub LosesNothingOf : TxnId → List LogEntry → List LogEntry → Type 0
+LosesNothingOf txn log front = (lost : List LogEntry) → log ≡ front ++ lost → EachAfter (λ _ entry. is_of txn entry.content ≡ false) [] lost
+
+-- the step does not concern what the transaction has on the virtual node
+abbrev pub IsSpared : Ledger → Step → TxnId → ℕ → Type 0
+IsSpared ledger (carry_out actor place op) txn v = Unit {0}
+IsSpared ledger (prepare u actor) txn v = Unit {0}
+IsSpared ledger (decide u actor) txn v = Unit {0}
+IsSpared ledger (join actor) txn v = txn ≢ actor
+IsSpared ledger (undo u content) txn v = v ≡ u → txn ≢ txn_of content
+IsSpared ledger (finish u actor commit) txn v = v ≡ u → txn ≢ actor
+IsSpared ledger (cut u front) txn v = v ≡ u → LosesNothingOf txn (ledger.logs u) front
 
 -- the ledger after steps, one after another
 abbrev pub after_steps : Ledger → List Step → Ledger

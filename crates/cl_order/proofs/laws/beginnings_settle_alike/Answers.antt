@@ -1,0 +1,5 @@
+use Rattle.cl_order.proofs.LawLemmas.{beginnings_settle_alike}
+use Rattle.cl_order.proofs.laws.beginnings_settle_alike.Goals as goal
+
+pub returns : goal.returns
+returns c = beginnings_settle_alike

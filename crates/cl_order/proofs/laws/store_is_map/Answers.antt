@@ -1,0 +1,5 @@
+use Rattle.cl_order.proofs.LawLemmas.{store_is_map}
+use Rattle.cl_order.proofs.laws.store_is_map.Goals as goal
+
+pub returns : goal.returns
+returns c = store_is_map
