@@ -27,7 +27,7 @@ fn are_serve(words: &[String]) -> bool
 
 /// Runs the server on the words of its command line: `serve` and nothing else.
 ///
-/// The statuses are those of `Ended`.
+/// Its status is one of the constants beside `Ended`, from `DONE` to `NO_MEMORY`.
 pub fn clustra<R: Threads + Wait + Sync, S: Source, K: Sink, G: Gate + Sync>(
     _rt: &R,
     alloc: Global,

@@ -50,7 +50,7 @@ fn status_of_words(error: &io::Error) -> u8
     }
 }
 
-// Runs the server on the program's words, and returns what the program exits with.
+// Runs the server on the program's words and returns what the program exits with.
 fn run_program<R: Threads + Wait + Sync + Env + AllocGlobal, S: Source, K: Sink>(
     rt: &R,
     source: &mut S,
@@ -76,7 +76,7 @@ fn run_program<R: Threads + Wait + Sync + Env + AllocGlobal, S: Source, K: Sink>
     }
 }
 
-// A contract on `main` is not possible: it makes the ends and returns what `run_program` says.
+// `main` cannot have a contract. It makes the real ends and returns what `run_program` answers.
 fn main(rt: HostRuntime) -> ExitCode {
     let mut source = StdSource::new(rt.stdin());
     let mut sink = StdSink::new(rt.stdout());
