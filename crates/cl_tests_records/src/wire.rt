@@ -1,9 +1,9 @@
 //! Worked packets, with bytes from outside the program.
 use cl_log::{Form, LogRec};
+use cl_samples::{is_value, txn as sample_txn};
 use cl_types::{AbortCause, Answer, Command, Key, NoMemory, Op, Outcome, Reply, TableName, TxnId};
 use cl_wire::*;
 use std::alloc::{AllocError, Global};
-use std::process::Abort;
 use std::test::Fail;
 
 // What the front sends to node 1 for the BEGIN of session 1.
@@ -37,19 +37,19 @@ fn spelled(
     Ok(bytes)
 }
 
-// Whether the bytes are read, and what they say is spelled by the same bytes.
-fn comes_back(alloc: Global, bytes: &[u8]) -> Result<bool, NoMemory> {
+// The packet that the bytes spell, if it is spelled by the same bytes again.
+fn read_back(alloc: Global, bytes: &[u8]) -> Result<Option<Packet>, NoMemory> {
     match decode(alloc, bytes) {
-        Ok(packet) => Ok(encode(alloc, &packet)?.as_slice() == bytes),
-        Err(Undecoded::Fault(_)) => Ok(false),
+        Ok(packet) => {
+            if encode(alloc, &packet)?.as_slice() == bytes {
+                Ok(Some(packet))
+            } else {
+                Ok(None)
+            }
+        }
+        Err(Undecoded::Fault(_)) => Ok(None),
         Err(Undecoded::NoMemory) => Err(NoMemory),
     }
-}
-
-// The packet that is read from bytes, whose spelling is these bytes again.
-fn read_back(rt: &impl Abort, alloc: Global, bytes: &[u8]) -> Result<Packet, Fail> {
-    assert!(rt; comes_back(alloc, bytes)?);
-    Ok(decode(alloc, bytes)?)
 }
 
 fn fault_of(alloc: Global, bytes: &[u8]) -> Option<WireFault> {
@@ -60,9 +60,9 @@ fn fault_of(alloc: Global, bytes: &[u8]) -> Option<WireFault> {
 }
 
 // The fault where one byte of the worked packet is another.
-fn fault_with(alloc: Global, place: usize, byte: u8) -> Option<WireFault> {
+fn fault_with(alloc: Global, index: usize, byte: u8) -> Option<WireFault> {
     let mut bytes = BEGIN;
-    match bytes.get_mut(place) {
+    match bytes.get_mut(index) {
         Some(old) => *old = byte,
         None => {}
     }
@@ -73,17 +73,13 @@ fn is_place(table: &TableName, key: &Key, wanted: (&[u8], &[u8])) -> bool {
     table.bytes() == wanted.0 && key.bytes() == wanted.1
 }
 
-fn is_txn(txn: TxnId, session: u32, number: u64) -> bool {
-    txn.session == session && txn.number == number
-}
-
 // Whether the packet is that of the first bytes above, or of the second.
 fn is_worked(packet: &Packet, is_begin: bool) -> bool {
     let actors = (packet.from, packet.to);
     let numbers = (packet.set, packet.seq, packet.ack);
     match &packet.body {
         Body::Command(1, txn, 0, Command::Begin) => {
-            is_begin && is_txn(*txn, 1, 1) && actors == (16, 1) && numbers == (0, 1, 0)
+            is_begin && *txn == sample_txn(1, 1) && actors == (16, 1) && numbers == (0, 1, 0)
         }
         Body::Bare => !is_begin && actors == (1, 16) && numbers == (0, 0, 1),
         _ => false,
@@ -92,9 +88,16 @@ fn is_worked(packet: &Packet, is_begin: bool) -> bool {
 
 #[test]
 fn the_worked_packets(rt: HostRuntime) -> Result<(), Fail> {
-    for (bytes, is_begin) in [(BEGIN.as_slice(), true), (BARE.as_slice(), false)] {
-        let packet = read_back(&rt, rt.alloc(), bytes)?;
-        assert!(rt; is_worked(&packet, is_begin));
+    let rows = [
+        ("begin", BEGIN.as_slice(), true),
+        ("bare", BARE.as_slice(), false),
+    ];
+    for (name, bytes, is_begin) in rows {
+        let packet = read_back(rt.alloc(), bytes)?;
+        assert!(rt;
+            matches!(&packet, Some(packet) if is_worked(packet, is_begin)),
+            "{name}"
+        );
     }
     Ok(())
 }
@@ -102,7 +105,10 @@ fn the_worked_packets(rt: HostRuntime) -> Result<(), Fail> {
 #[test]
 fn the_first_fault_is_named(rt: HostRuntime) -> Result<(), Fail> {
     for count in 0..BEGIN.len() {
-        assert!(rt; fault_of(rt.alloc(), &BEGIN[..count]) == Some(WireFault::Short));
+        assert!(rt;
+            fault_of(rt.alloc(), &BEGIN[..count]) == Some(WireFault::Short),
+            "{count} bytes"
+        );
     }
     let rows = [
         (0, 2, WireFault::Field),
@@ -111,10 +117,11 @@ fn the_first_fault_is_named(rt: HostRuntime) -> Result<(), Fail> {
         (25, 65, WireFault::Field),
         (38, 7, WireFault::Field),
     ];
-    for (place, byte, fault) in rows {
+    for row in rows {
+        let (index, byte, fault) = row;
         assert!(rt;
-            fault_with(rt.alloc(), place, byte) == Some(fault),
-            "at {place}"
+            fault_with(rt.alloc(), index, byte) == Some(fault),
+            "at {row:?}"
         );
     }
     Ok(())
@@ -161,7 +168,10 @@ fn a_length_out_of_range(rt: HostRuntime) -> Result<(), Fail> {
             129,
         ];
         let bytes = spelled(rt.alloc(), 1, 16, 1, &fields)?;
-        assert!(rt; fault_of(rt.alloc(), &bytes) == Some(fault));
+        assert!(rt;
+            fault_of(rt.alloc(), &bytes) == Some(fault),
+            "a table of {table_length}"
+        );
     }
     Ok(())
 }
@@ -170,16 +180,16 @@ fn a_length_out_of_range(rt: HostRuntime) -> Result<(), Fail> {
 fn is_told_of_an_operation(kind: u8, body: &Body) -> bool {
     match (kind, body) {
         (1, Body::Command(5, txn, 65, Command::Work(table, key, Op::Put(value)))) => {
-            *txn == TXN && is_place(table, key, (b"t", b"k")) && value.bytes() == b"v".as_slice()
+            *txn == TXN && is_place(table, key, (b"t", b"k")) && is_value(Some(value), Some(b"v"))
         }
         (2, Body::Outcome(txn, 3, Outcome::Aborted(AbortCause::Conflict(holder)))) => {
-            *txn == TXN && is_txn(*holder, 2, 7)
+            *txn == TXN && *holder == sample_txn(2, 7)
         }
         (3, Body::Ask(7, txn, 1, table, key, Op::Add(-5))) => {
             *txn == TXN && is_place(table, key, (b"acct", b"k00"))
         }
         (4, Body::Answer(7, txn, 1, Answer::Done(Reply::Found(value)))) => {
-            *txn == TXN && value.bytes() == b"1000".as_slice()
+            *txn == TXN && is_value(Some(value), Some(b"1000"))
         }
         _ => false,
     }
@@ -207,12 +217,11 @@ fn operations_and_their_outcomes(rt: HostRuntime) -> Result<(), Fail> {
         (4, (2, 1), &answer),
     ];
     for (kind, (from, to), fields) in rows {
-        let packet = read_back(
-            &rt,
-            rt.alloc(),
-            &spelled(rt.alloc(), kind, from, to, fields)?,
-        )?;
-        assert!(rt; is_told_of_an_operation(kind, &packet.body), "kind {kind}");
+        let packet = read_back(rt.alloc(), &spelled(rt.alloc(), kind, from, to, fields)?)?;
+        assert!(rt;
+            matches!(&packet, Some(packet) if is_told_of_an_operation(kind, &packet.body)),
+            "kind {kind}"
+        );
     }
     Ok(())
 }
@@ -237,11 +246,13 @@ fn the_steps_of_a_commit(rt: HostRuntime) -> Result<(), Fail> {
     let ended = [3, 1, 0, 0, 0, 0, 0, 0, 0, 2, 1];
     for (kind, count) in [(5, 10), (6, 10), (7, 11), (8, 10), (9, 11)] {
         let packet = read_back(
-            &rt,
             rt.alloc(),
             &spelled(rt.alloc(), kind, 1, 2, &ended[..count])?,
         )?;
-        assert!(rt; is_told_of_a_step(kind, &packet.body), "kind {kind}");
+        assert!(rt;
+            matches!(&packet, Some(packet) if is_told_of_a_step(kind, &packet.body)),
+            "kind {kind}"
+        );
     }
     Ok(())
 }
@@ -254,12 +265,11 @@ fn log_and_copy_are_asked_for_and_acknowledged(rt: HostRuntime) -> Result<(), Fa
         (15, (5, 1), &[1, 0, 0, 0, 2]),
     ];
     for (kind, (from, to), fields) in rows {
-        let packet = read_back(
-            &rt,
-            rt.alloc(),
-            &spelled(rt.alloc(), kind, from, to, fields)?,
-        )?;
-        assert!(rt; is_told_of_a_step(kind, &packet.body), "kind {kind}");
+        let packet = read_back(rt.alloc(), &spelled(rt.alloc(), kind, from, to, fields)?)?;
+        assert!(rt;
+            matches!(&packet, Some(packet) if is_told_of_a_step(kind, &packet.body)),
+            "kind {kind}"
+        );
     }
     Ok(())
 }
@@ -283,8 +293,8 @@ fn is_record(is_write: bool, body: &Body) -> bool {
             is_write
                 && *txn == TXN
                 && is_place(table, key, (b"t", b"a"))
-                && old.bytes() == b"5".as_slice()
-                && new.bytes() == b"6".as_slice()
+                && is_value(Some(old), Some(b"5"))
+                && is_value(Some(new), Some(b"6"))
         }
         Body::Log(1, 12, LogRec::Comp(txn, table, key, 11, 10, Form::Amount(2))) => {
             !is_write && *txn == TXN && is_place(table, key, (b"t", b"a"))
@@ -295,40 +305,41 @@ fn is_record(is_write: bool, body: &Body) -> bool {
 
 #[test]
 fn records_of_the_log(rt: HostRuntime) -> Result<(), Fail> {
-    for (fields, is_write) in [(SET.as_slice(), true), (UNDONE.as_slice(), false)] {
-        let packet = read_back(&rt, rt.alloc(), &spelled(rt.alloc(), 10, 1, 2, fields)?)?;
-        assert!(rt; is_record(is_write, &packet.body));
+    let rows = [
+        ("set", SET.as_slice(), true),
+        ("undone", UNDONE.as_slice(), false),
+    ];
+    for (name, fields, is_write) in rows {
+        let packet = read_back(rt.alloc(), &spelled(rt.alloc(), 10, 1, 2, fields)?)?;
+        assert!(rt;
+            matches!(&packet, Some(packet) if is_record(is_write, &packet.body)),
+            "{name}"
+        );
     }
     Ok(())
 }
 
 // Where an allocation fails, the bytes have no fault, and are read then.
 #[test]
-fn a_want_of_memory_is_no_fault_of_the_bytes(rt: HostRuntime) -> Result<(), Fail> {
+fn a_failed_allocation_is_no_fault_of_the_bytes(rt: HostRuntime) -> Result<(), Fail> {
     let bytes = spelled(rt.alloc(), 10, 1, 2, &SET)?;
-    let mut found = comes_back(rt.alloc(), &bytes);
+    let mut found = read_back(rt.alloc(), &bytes);
     if found.is_err() {
-        found = comes_back(rt.alloc(), &bytes);
+        found = read_back(rt.alloc(), &bytes);
     }
-    assert!(rt; found == Ok(true));
+    assert!(rt; found?.is_some());
     Ok(())
 }
 
-// Whether the body is the first piece of a copy, with one dead record of number 12.
-fn is_one_record(body: &Body) -> bool {
-    match body {
-        Body::Records(1, 1, list) => match list.as_slice() {
+// Whether the body is the first piece of a copy, with one dead record of number 12, or the second and last piece, with
+// one name, followed from number 13.
+fn is_piece(kind: u8, body: &Body) -> bool {
+    match (kind, body) {
+        (13, Body::Records(1, 1, list)) => match list.as_slice() {
             [item] => item.number == 12 && item.value.is_none(),
             _ => false,
         },
-        _ => false,
-    }
-}
-
-// Whether the body is the second and last piece of a copy, with one name, followed from number 13.
-fn is_one_name(body: &Body) -> bool {
-    match body {
-        Body::Names(1, 2, true, 13, list) => list.as_slice() == [TXN].as_slice(),
+        (14, Body::Names(1, 2, true, 13, list)) => list.as_slice() == [TXN].as_slice(),
         _ => false,
     }
 }
@@ -342,9 +353,11 @@ fn the_pieces_of_a_copy(rt: HostRuntime) -> Result<(), Fail> {
         1, 0, 0, 0, 2, 1, 0, 0, 0, 0, 0, 0, 0, 13, 1, 1, 0, 0, 0, 0, 0, 0, 0, 2,
     ];
     for (kind, fields) in [(13, record.as_slice()), (14, &name)] {
-        let packet = read_back(&rt, rt.alloc(), &spelled(rt.alloc(), kind, 1, 5, fields)?)?;
-        assert!(rt; is_one_record(&packet.body) == (kind == 13));
-        assert!(rt; is_one_name(&packet.body) == (kind == 14));
+        let packet = read_back(rt.alloc(), &spelled(rt.alloc(), kind, 1, 5, fields)?)?;
+        assert!(rt;
+            matches!(&packet, Some(packet) if is_piece(kind, &packet.body)),
+            "kind {kind}"
+        );
     }
     Ok(())
 }
@@ -360,6 +373,10 @@ fn longest_record(alloc: Global) -> Result<Vec<u8>, AllocError> {
     Ok(bytes)
 }
 
+fn has_four(body: &Body) -> bool {
+    matches!(body, Body::Records(1, 1, list) if list.len() == 4)
+}
+
 #[test]
 fn the_longest_packet(rt: HostRuntime) -> Result<(), Fail> {
     let mut bytes = spelled(rt.alloc(), 13, 1, 5, &[1, 0, 0, 0, 1, 4])?;
@@ -367,9 +384,8 @@ fn the_longest_packet(rt: HostRuntime) -> Result<(), Fail> {
     for _ in 0..4 {
         bytes.extend_from_slice(&record)?;
     }
-    let packet = read_back(&rt, rt.alloc(), &bytes)?;
-    assert!(rt; bytes.len() == PACKET_MAX);
-    assert!(rt; matches!(&packet.body, Body::Records(1, 1, list) if list.len() == 4));
+    let packet = read_back(rt.alloc(), &bytes)?;
+    assert!(rt; bytes.len() == PACKET_MAX && packet.is_some_and(|packet| has_four(&packet.body)));
     Ok(())
 }
 
