@@ -9,7 +9,8 @@ use crate::undecoded::Undecoded;
 use cl_log::Form;
 use cl_store::Item;
 use cl_types::{
-    AbortCause, Answer, Command, Key, Mode, Op, Outcome, Reply, SESSIONS_MAX, TableName, TxnId, VALUE_MAX, Value,
+    AbortCause, Answer, Command, Key, Mode, Op, Outcome, Reply, SESSIONS_MAX, TableName, TxnId,
+    VALUE_MAX, Value,
 };
 use std::alloc::Global;
 

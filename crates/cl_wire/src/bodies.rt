@@ -25,7 +25,11 @@ fn command_body(reader: &mut Reader<'_>, alloc: Global) -> Result<Body, Undecode
 fn outcome_body(reader: &mut Reader<'_>, alloc: Global) -> Result<Body, Undecoded>
     ensures { Gives content_of result reader.new (read_content kinds.Outcome reader.old) }
 {
-    Ok(Body::Outcome(reader.txn()?, reader.command_number()?, reader.outcome(alloc)?))
+    Ok(Body::Outcome(
+        reader.txn()?,
+        reader.command_number()?,
+        reader.outcome(alloc)?,
+    ))
 }
 
 fn ask_body(reader: &mut Reader<'_>, alloc: Global) -> Result<Body, Undecoded>

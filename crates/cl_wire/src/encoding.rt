@@ -50,7 +50,12 @@ fn write_part(writer: &mut Writer, v: u32, txn: TxnId) -> Result<(), NoMemory>
 }
 
 // Writes a virtual node, a transaction and the number of a command in it.
-fn write_command_number(writer: &mut Writer, v: u32, txn: TxnId, command_number: u32) -> Result<(), NoMemory>
+fn write_command_number(
+    writer: &mut Writer,
+    v: u32,
+    txn: TxnId,
+    command_number: u32,
+) -> Result<(), NoMemory>
     requires v { IsVirtualNode v }
     requires txn { IsTxn txn }
     ensures { OnOk result (writer.new ≡ writer.old ++ byte v ++ txn_bytes txn ++ number_32 command_number) }
