@@ -25,6 +25,7 @@ use Rattle.cl_log.specs.declared.records.LogRec.{LogRec}
 use Rattle.cl_log.specs.declared.records.LogRec.TheVariants as entries
 use Rattle.cl_store.specs.declared.item.Item.{Item}
 use Rattle.cl_fields.specs.declared.limits.TheConstants.{ACTOR_MAX, NODE_MAX, VIRTUAL_NODE_MAX, COMMAND_NUMBER_MAX, LIST_MAX}
+use Rattle.cl_fields.specs.declared.tags.TheConstants as tags
 use Rattle.cl_fields.specs.declared.undecoded.WireFault.{WireFault}
 use Rattle.cl_fields.specs.declared.undecoded.WireFault.TheVariants as faults
 use Rattle.cl_fields.specs.declared.undecoded.Undecoded.{Undecoded}
@@ -98,7 +99,7 @@ read_flag = do
 unfoldable pub read_mode : Reader Mode
 read_mode = do
   b ← read_byte
-  if b == 1 then done Shared else (if b == 2 then done Exclusive else out_of_range)
+  if b == tags.MODE_SHARED then done Shared else (if b == tags.MODE_EXCLUSIVE then done Exclusive else out_of_range)
 
 abbrev pub read_actor : Reader ℕ
 read_actor = read_between 0 ACTOR_MAX
@@ -163,10 +164,10 @@ read_form = do
 -- what stands after the key of an operation with this byte
 unfoldable pub read_operand : ℕ → Reader Op
 read_operand b =
-    if b == 1 then done Get
-    else (if b == 2 then (read_value >>= λ value. done (Put value))
-    else (if b == 3 then done Del
-    else (if b == 4 then (read_amount >>= λ amount. done (Add amount)) else out_of_range)))
+    if b == tags.OP_GET then done Get
+    else (if b == tags.OP_PUT then (read_value >>= λ value. done (Put value))
+    else (if b == tags.OP_DEL then done Del
+    else (if b == tags.OP_ADD then (read_amount >>= λ amount. done (Add amount)) else out_of_range)))
 
 -- a table, a key and an operation, after the operation's byte
 unfoldable pub read_work : ℕ → Reader (List ℕ × List ℕ × Op)
@@ -178,49 +179,49 @@ read_work b = do
 
 unfoldable pub read_op : Reader (List ℕ × List ℕ × Op)
 read_op = do
-  b ← read_between 1 4
+  b ← read_between tags.OP_GET tags.OP_ADD
   read_work b
 
 unfoldable pub read_command : Reader ClientCommand
 read_command = do
   b ← read_byte
-  if b == 0 then done Begin
-      else (if b == 5 then done Commit
-      else (if b == 6 then done Abort
-      else (if is_between 1 4 b then (read_work b >>= λ work. done (Work work.0 work.1 work.2)) else out_of_range)))
+  if b == tags.COMMAND_BEGIN then done Begin
+      else (if b == tags.COMMAND_COMMIT then done Commit
+      else (if b == tags.COMMAND_ABORT then done Abort
+      else (if is_between tags.OP_GET tags.OP_ADD b then (read_work b >>= λ work. done (Work work.0 work.1 work.2)) else out_of_range)))
 
 unfoldable pub read_reply : Reader Reply
 read_reply = do
   b ← read_byte
-  if b == 0 then done replies.Stored
-      else (if b == 1 then (read_value >>= λ value. done (replies.Found value))
-      else (if b == 2 then done replies.Absent
-      else (if b == 3 then (read_amount >>= λ sum. done (replies.Sum sum))
-      else (if b == 4 then done replies.NotNumber
-      else (if b == 5 then done replies.OutOfRange else out_of_range)))))
+  if b == tags.REPLY_STORED then done replies.Stored
+      else (if b == tags.REPLY_FOUND then (read_value >>= λ value. done (replies.Found value))
+      else (if b == tags.REPLY_ABSENT then done replies.Absent
+      else (if b == tags.REPLY_SUM then (read_amount >>= λ sum. done (replies.Sum sum))
+      else (if b == tags.REPLY_NOT_NUMBER then done replies.NotNumber
+      else (if b == tags.REPLY_OUT_OF_RANGE then done replies.OutOfRange else out_of_range)))))
 
 unfoldable pub read_cause : Reader AbortCause
 read_cause = do
   b ← read_byte
-  if b == 0 then (read_txn >>= λ holder. done (causes.Conflict holder))
-      else (if b == 1 then (read_node >>= λ node. done (causes.Node node))
-      else (if b == 2 then done causes.Client
-      else (if b == 3 then done causes.Memory else out_of_range)))
+  if b == tags.CAUSE_CONFLICT then (read_txn >>= λ holder. done (causes.Conflict holder))
+      else (if b == tags.CAUSE_NODE then (read_node >>= λ node. done (causes.Node node))
+      else (if b == tags.CAUSE_CLIENT then done causes.Client
+      else (if b == tags.CAUSE_MEMORY then done causes.Memory else out_of_range)))
 
 unfoldable pub read_outcome : Reader CommandOutcome
 read_outcome = do
   b ← read_byte
-  if b == 0 then (read_reply >>= λ reply. done (outcomes.Done reply))
-      else (if b == 1 then done outcomes.Begun
-      else (if b == 2 then done outcomes.Committed
-      else (if b == 3 then (read_cause >>= λ cause. done (outcomes.Aborted cause)) else out_of_range)))
+  if b == tags.OUTCOME_DONE then (read_reply >>= λ reply. done (outcomes.Done reply))
+      else (if b == tags.OUTCOME_BEGUN then done outcomes.Begun
+      else (if b == tags.OUTCOME_COMMITTED then done outcomes.Committed
+      else (if b == tags.OUTCOME_ABORTED then (read_cause >>= λ cause. done (outcomes.Aborted cause)) else out_of_range)))
 
 unfoldable pub read_answer : Reader OpAnswer
 read_answer = do
   b ← read_byte
-  if b == 0 then (read_reply >>= λ reply. done (answers.Done reply))
-      else (if b == 1 then (read_txn >>= λ holder. done (answers.Refused holder))
-      else (if b == 2 then done answers.NoMemory else out_of_range))
+  if b == tags.ANSWER_DONE then (read_reply >>= λ reply. done (answers.Done reply))
+      else (if b == tags.ANSWER_REFUSED then (read_txn >>= λ holder. done (answers.Refused holder))
+      else (if b == tags.ANSWER_NO_MEMORY then done answers.NoMemory else out_of_range))
 
 unfoldable pub read_touch : Reader LogRec
 read_touch = do
@@ -269,13 +270,13 @@ read_end = do
 unfoldable pub read_entry : Reader LogRec
 read_entry = do
   b ← read_byte
-  if b == 1 then read_touch
-      else (if b == 2 then read_set
-      else (if b == 3 then read_add
-      else (if b == 4 then read_comp
-      else (if b == 5 then (read_txn >>= λ txn. done (entries.Prepared txn))
-      else (if b == 6 then read_end
-      else (if b == 7 then (read_txn >>= λ txn. done (entries.Decide txn)) else out_of_range))))))
+  if b == tags.ENTRY_TOUCH then read_touch
+      else (if b == tags.ENTRY_SET then read_set
+      else (if b == tags.ENTRY_ADD then read_add
+      else (if b == tags.ENTRY_COMP then read_comp
+      else (if b == tags.ENTRY_PREPARED then (read_txn >>= λ txn. done (entries.Prepared txn))
+      else (if b == tags.ENTRY_END then read_end
+      else (if b == tags.ENTRY_DECIDE then (read_txn >>= λ txn. done (entries.Decide txn)) else out_of_range))))))
 
 -- a record of a store
 unfoldable pub read_item : Reader Item

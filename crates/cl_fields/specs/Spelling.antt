@@ -22,6 +22,7 @@ use Rattle.cl_log.specs.declared.records.Form.TheVariants.{Image, Amount}
 use Rattle.cl_log.specs.declared.records.LogRec.{LogRec}
 use Rattle.cl_log.specs.declared.records.LogRec.TheVariants as entries
 use Rattle.cl_store.specs.declared.item.Item.{Item}
+use Rattle.cl_fields.specs.declared.tags.TheConstants as tags
 
 abbrev pub byte : ℕ → List ℕ
 byte n = n ∷ []
@@ -43,8 +44,8 @@ flag_byte false = 0
 flag_byte true = 1
 
 abbrev pub mode_byte : Mode → ℕ
-mode_byte Shared = 1
-mode_byte Exclusive = 2
+mode_byte Shared = tags.MODE_SHARED
+mode_byte Exclusive = tags.MODE_EXCLUSIVE
 
 unfoldable pub txn_bytes : TxnId → List ℕ
 txn_bytes txn = byte txn.session ++ number_64 txn.number
@@ -68,10 +69,10 @@ form_bytes (Amount amount) = byte 1 ++ amount_bytes amount
 
 -- the byte of an operation
 abbrev pub op_byte : Op → ℕ
-op_byte Get = 1
-op_byte (Put value) = 2
-op_byte Del = 3
-op_byte (Add amount) = 4
+op_byte Get = tags.OP_GET
+op_byte (Put value) = tags.OP_PUT
+op_byte Del = tags.OP_DEL
+op_byte (Add amount) = tags.OP_ADD
 
 -- what stands after the key
 abbrev pub operand_bytes : Op → List ℕ
@@ -84,49 +85,49 @@ unfoldable pub op_bytes : List ℕ → List ℕ → Op → List ℕ
 op_bytes table key op = byte (op_byte op) ++ name_bytes table ++ name_bytes key ++ operand_bytes op
 
 unfoldable pub command_bytes : ClientCommand → List ℕ
-command_bytes Begin = byte 0
+command_bytes Begin = byte tags.COMMAND_BEGIN
 command_bytes (Work table key op) = op_bytes table key op
-command_bytes Commit = byte 5
-command_bytes Abort = byte 6
+command_bytes Commit = byte tags.COMMAND_COMMIT
+command_bytes Abort = byte tags.COMMAND_ABORT
 
 unfoldable pub reply_bytes : Reply → List ℕ
-reply_bytes replies.Stored = byte 0
-reply_bytes (replies.Found value) = byte 1 ++ value_bytes value
-reply_bytes replies.Absent = byte 2
-reply_bytes (replies.Sum sum) = byte 3 ++ amount_bytes sum
-reply_bytes replies.NotNumber = byte 4
-reply_bytes replies.OutOfRange = byte 5
+reply_bytes replies.Stored = byte tags.REPLY_STORED
+reply_bytes (replies.Found value) = byte tags.REPLY_FOUND ++ value_bytes value
+reply_bytes replies.Absent = byte tags.REPLY_ABSENT
+reply_bytes (replies.Sum sum) = byte tags.REPLY_SUM ++ amount_bytes sum
+reply_bytes replies.NotNumber = byte tags.REPLY_NOT_NUMBER
+reply_bytes replies.OutOfRange = byte tags.REPLY_OUT_OF_RANGE
 
 unfoldable pub cause_bytes : AbortCause → List ℕ
-cause_bytes (causes.Conflict txn) = byte 0 ++ txn_bytes txn
-cause_bytes (causes.Node node) = byte 1 ++ byte node
-cause_bytes causes.Client = byte 2
-cause_bytes causes.Memory = byte 3
+cause_bytes (causes.Conflict txn) = byte tags.CAUSE_CONFLICT ++ txn_bytes txn
+cause_bytes (causes.Node node) = byte tags.CAUSE_NODE ++ byte node
+cause_bytes causes.Client = byte tags.CAUSE_CLIENT
+cause_bytes causes.Memory = byte tags.CAUSE_MEMORY
 
 -- the outcomes of commands that go to a controller; the others are sent by nobody
 unfoldable pub outcome_bytes : CommandOutcome → List ℕ
-outcome_bytes (outcomes.Done reply) = byte 0 ++ reply_bytes reply
-outcome_bytes outcomes.Begun = byte 1
-outcome_bytes outcomes.Committed = byte 2
-outcome_bytes (outcomes.Aborted cause) = byte 3 ++ cause_bytes cause
+outcome_bytes (outcomes.Done reply) = byte tags.OUTCOME_DONE ++ reply_bytes reply
+outcome_bytes outcomes.Begun = byte tags.OUTCOME_BEGUN
+outcome_bytes outcomes.Committed = byte tags.OUTCOME_COMMITTED
+outcome_bytes (outcomes.Aborted cause) = byte tags.OUTCOME_ABORTED ++ cause_bytes cause
 outcome_bytes outcomes.NotTxn = []
 outcome_bytes outcomes.InTxn = []
 outcome_bytes outcomes.Full = []
 
 unfoldable pub answer_bytes : OpAnswer → List ℕ
-answer_bytes (answers.Done reply) = byte 0 ++ reply_bytes reply
-answer_bytes (answers.Refused holder) = byte 1 ++ txn_bytes holder
-answer_bytes answers.NoMemory = byte 2
+answer_bytes (answers.Done reply) = byte tags.ANSWER_DONE ++ reply_bytes reply
+answer_bytes (answers.Refused holder) = byte tags.ANSWER_REFUSED ++ txn_bytes holder
+answer_bytes answers.NoMemory = byte tags.ANSWER_NO_MEMORY
 
 -- a record of a log
 unfoldable pub entry_bytes : LogRec → List ℕ
-entry_bytes (entries.Touch txn table key mode) = byte 1 ++ txn_bytes txn ++ name_bytes table ++ name_bytes key ++ byte (mode_byte mode)
-entry_bytes (entries.Set txn table key before old new) = byte 2 ++ txn_bytes txn ++ name_bytes table ++ name_bytes key ++ number_64 before ++ image_bytes old ++ image_bytes new
-entry_bytes (entries.Add txn table key before amount) = byte 3 ++ txn_bytes txn ++ name_bytes table ++ name_bytes key ++ number_64 before ++ amount_bytes amount
-entry_bytes (entries.Comp txn table key before undone form) = byte 4 ++ txn_bytes txn ++ name_bytes table ++ name_bytes key ++ number_64 before ++ number_64 undone ++ form_bytes form
-entry_bytes (entries.Prepared txn) = byte 5 ++ txn_bytes txn
-entry_bytes (entries.End txn commit) = byte 6 ++ txn_bytes txn ++ byte (flag_byte commit)
-entry_bytes (entries.Decide txn) = byte 7 ++ txn_bytes txn
+entry_bytes (entries.Touch txn table key mode) = byte tags.ENTRY_TOUCH ++ txn_bytes txn ++ name_bytes table ++ name_bytes key ++ byte (mode_byte mode)
+entry_bytes (entries.Set txn table key before old new) = byte tags.ENTRY_SET ++ txn_bytes txn ++ name_bytes table ++ name_bytes key ++ number_64 before ++ image_bytes old ++ image_bytes new
+entry_bytes (entries.Add txn table key before amount) = byte tags.ENTRY_ADD ++ txn_bytes txn ++ name_bytes table ++ name_bytes key ++ number_64 before ++ amount_bytes amount
+entry_bytes (entries.Comp txn table key before undone form) = byte tags.ENTRY_COMP ++ txn_bytes txn ++ name_bytes table ++ name_bytes key ++ number_64 before ++ number_64 undone ++ form_bytes form
+entry_bytes (entries.Prepared txn) = byte tags.ENTRY_PREPARED ++ txn_bytes txn
+entry_bytes (entries.End txn commit) = byte tags.ENTRY_END ++ txn_bytes txn ++ byte (flag_byte commit)
+entry_bytes (entries.Decide txn) = byte tags.ENTRY_DECIDE ++ txn_bytes txn
 
 -- a record of a store
 unfoldable pub item_bytes : Item → List ℕ

@@ -1,9 +1,9 @@
 //! Reading records of logs.
 ghost use Rattle.cl_fields.specs.Reading.{ReadsField, read_touch, read_set, read_add, read_comp, read_end, read_entry};
 
-use crate::WireFault;
 use crate::reader::Reader;
 use crate::undecoded::Undecoded;
+use crate::{WireFault, tags};
 use cl_log::LogRec;
 use std::alloc::Global;
 
@@ -69,13 +69,13 @@ impl<'a> Reader<'a> {
         ensures { ReadsField result self.new (read_entry self.old) }
     {
         match self.byte()? {
-            1 => self.touch(),
-            2 => self.set(alloc),
-            3 => self.add(),
-            4 => self.comp(alloc),
-            5 => Ok(LogRec::Prepared(self.txn()?)),
-            6 => self.end(),
-            7 => Ok(LogRec::Decide(self.txn()?)),
+            tags::ENTRY_TOUCH => self.touch(),
+            tags::ENTRY_SET => self.set(alloc),
+            tags::ENTRY_ADD => self.add(),
+            tags::ENTRY_COMP => self.comp(alloc),
+            tags::ENTRY_PREPARED => Ok(LogRec::Prepared(self.txn()?)),
+            tags::ENTRY_END => self.end(),
+            tags::ENTRY_DECIDE => Ok(LogRec::Decide(self.txn()?)),
             _ => Err(WireFault::Field.into()),
         }
     }

@@ -2,10 +2,10 @@
 ghost use Rattle.std.specs.Prelude.{◌≡◌};
 ghost use Rattle.cl_fields.specs.Reading.{Gives, ReadsField, read_actor, read_node, read_virtual_node, read_command_number, read_mode, read_txn, read_text, read_table, read_key, read_value_length, read_value, read_image, read_form, read_operand, read_work, read_op, read_command, read_reply, read_cause, read_outcome, read_answer, read_item};
 
-use crate::WireFault;
 use crate::limits::{ACTOR_MAX, COMMAND_NUMBER_MAX, NODE_MAX, VIRTUAL_NODE_MAX};
 use crate::reader::Reader;
 use crate::undecoded::Undecoded;
+use crate::{WireFault, tags};
 use cl_log::Form;
 use cl_store::Item;
 use cl_types::{
@@ -55,8 +55,8 @@ impl<'a> Reader<'a> {
         ensures { ReadsField result self.new (read_mode self.old) }
     {
         match self.byte()? {
-            1 => Ok(Mode::Shared),
-            2 => Ok(Mode::Exclusive),
+            tags::MODE_SHARED => Ok(Mode::Shared),
+            tags::MODE_EXCLUSIVE => Ok(Mode::Exclusive),
             _ => Err(WireFault::Field.into()),
         }
     }
@@ -156,21 +156,21 @@ impl<'a> Reader<'a> {
 
     // Reads what stands after the key of the operation with this byte.
     #[tactic(auto, unfolding(crate::specs::Reading::read_operand))]
-    fn operand(&mut self, alloc: Global, byte: u32) -> Result<Op, Undecoded>
+    fn operand(&mut self, alloc: Global, byte: u8) -> Result<Op, Undecoded>
         ensures { ReadsField result self.new (read_operand byte self.old) }
     {
         match byte {
-            1 => Ok(Op::Get),
-            2 => Ok(Op::Put(self.value(alloc)?)),
-            3 => Ok(Op::Del),
-            4 => Ok(Op::Add(self.amount()?)),
+            tags::OP_GET => Ok(Op::Get),
+            tags::OP_PUT => Ok(Op::Put(self.value(alloc)?)),
+            tags::OP_DEL => Ok(Op::Del),
+            tags::OP_ADD => Ok(Op::Add(self.amount()?)),
             _ => Err(WireFault::Field.into()),
         }
     }
 
     // Reads an operation on a record, after its byte.
     #[tactic(auto, unfolding(crate::specs::Reading::read_work))]
-    fn work(&mut self, alloc: Global, byte: u32) -> Result<(TableName, Key, Op), Undecoded>
+    fn work(&mut self, alloc: Global, byte: u8) -> Result<(TableName, Key, Op), Undecoded>
         ensures { ReadsField result self.new (read_work byte self.old) }
     {
         let table = self.table()?;
@@ -180,12 +180,14 @@ impl<'a> Reader<'a> {
     }
 
     /// Reads an operation on a record: a table, a key, and what is done there.
-    #[tactic(auto, unfolding(crate::specs::Reading::read_op))]
+    #[tactic(auto, unfolding(crate::specs::Reading::read_op, crate::specs::Reading::read_between))]
     pub fn op(&mut self, alloc: Global) -> Result<(TableName, Key, Op), Undecoded>
         ensures { ReadsField result self.new (read_op self.old) }
     {
-        let byte = self.between(1, 4)?;
-        self.work(alloc, byte)
+        match self.byte()? {
+            byte @ tags::OP_GET..=tags::OP_ADD => self.work(alloc, byte),
+            _ => Err(WireFault::Field.into()),
+        }
     }
 
     /// Reads a client's command.
@@ -194,11 +196,11 @@ impl<'a> Reader<'a> {
         ensures { ReadsField result self.new (read_command self.old) }
     {
         match self.byte()? {
-            0 => Ok(Command::Begin),
-            5 => Ok(Command::Commit),
-            6 => Ok(Command::Abort),
-            byte @ 1..=4 => {
-                let (table, key, op) = self.work(alloc, u32::from(byte))?;
+            tags::COMMAND_BEGIN => Ok(Command::Begin),
+            tags::COMMAND_COMMIT => Ok(Command::Commit),
+            tags::COMMAND_ABORT => Ok(Command::Abort),
+            byte @ tags::OP_GET..=tags::OP_ADD => {
+                let (table, key, op) = self.work(alloc, byte)?;
                 Ok(Command::Work(table, key, op))
             }
             _ => Err(WireFault::Field.into()),
@@ -224,12 +226,12 @@ impl<'a> Reader<'a> {
         ensures { ReadsField result self.new (read_reply self.old) }
     {
         match self.byte()? {
-            0 => Ok(Reply::Stored),
-            1 => Ok(Reply::Found(self.value(alloc)?)),
-            2 => Ok(Reply::Absent),
-            3 => Ok(Reply::Sum(self.amount()?)),
-            4 => Ok(Reply::NotNumber),
-            5 => Ok(Reply::OutOfRange),
+            tags::REPLY_STORED => Ok(Reply::Stored),
+            tags::REPLY_FOUND => Ok(Reply::Found(self.value(alloc)?)),
+            tags::REPLY_ABSENT => Ok(Reply::Absent),
+            tags::REPLY_SUM => Ok(Reply::Sum(self.amount()?)),
+            tags::REPLY_NOT_NUMBER => Ok(Reply::NotNumber),
+            tags::REPLY_OUT_OF_RANGE => Ok(Reply::OutOfRange),
             _ => Err(WireFault::Field.into()),
         }
     }
@@ -240,10 +242,10 @@ impl<'a> Reader<'a> {
         ensures { ReadsField result self.new (read_cause self.old) }
     {
         match self.byte()? {
-            0 => Ok(AbortCause::Conflict(self.txn()?)),
-            1 => Ok(AbortCause::Node(self.node()?)),
-            2 => Ok(AbortCause::Client),
-            3 => Ok(AbortCause::Memory),
+            tags::CAUSE_CONFLICT => Ok(AbortCause::Conflict(self.txn()?)),
+            tags::CAUSE_NODE => Ok(AbortCause::Node(self.node()?)),
+            tags::CAUSE_CLIENT => Ok(AbortCause::Client),
+            tags::CAUSE_MEMORY => Ok(AbortCause::Memory),
             _ => Err(WireFault::Field.into()),
         }
     }
@@ -254,10 +256,10 @@ impl<'a> Reader<'a> {
         ensures { ReadsField result self.new (read_outcome self.old) }
     {
         match self.byte()? {
-            0 => Ok(Outcome::Done(self.reply(alloc)?)),
-            1 => Ok(Outcome::Begun),
-            2 => Ok(Outcome::Committed),
-            3 => Ok(Outcome::Aborted(self.cause()?)),
+            tags::OUTCOME_DONE => Ok(Outcome::Done(self.reply(alloc)?)),
+            tags::OUTCOME_BEGUN => Ok(Outcome::Begun),
+            tags::OUTCOME_COMMITTED => Ok(Outcome::Committed),
+            tags::OUTCOME_ABORTED => Ok(Outcome::Aborted(self.cause()?)),
             _ => Err(WireFault::Field.into()),
         }
     }
@@ -268,9 +270,9 @@ impl<'a> Reader<'a> {
         ensures { ReadsField result self.new (read_answer self.old) }
     {
         match self.byte()? {
-            0 => Ok(Answer::Done(self.reply(alloc)?)),
-            1 => Ok(Answer::Refused(self.txn()?)),
-            2 => Ok(Answer::NoMemory),
+            tags::ANSWER_DONE => Ok(Answer::Done(self.reply(alloc)?)),
+            tags::ANSWER_REFUSED => Ok(Answer::Refused(self.txn()?)),
+            tags::ANSWER_NO_MEMORY => Ok(Answer::NoMemory),
             _ => Err(WireFault::Field.into()),
         }
     }

@@ -6,6 +6,7 @@ mod fields;
 mod limits;
 mod lists;
 mod reader;
+mod tags;
 mod undecoded;
 mod writer;
 mod writing;

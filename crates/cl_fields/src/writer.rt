@@ -3,6 +3,7 @@ ghost use Rattle.std.specs.Prelude.{◌≡◌, [], ◌++◌, ◌<◌, ◌^◌, l
 ghost use Rattle.cl_fields.specs.Spelling.{byte, number_32, number_64, amount_bytes, flag_byte, mode_byte, txn_bytes, name_bytes, value_bytes, image_bytes, form_bytes};
 ghost use Rattle.cl_fields.specs.Range.{IsTxn, IsTable, IsKey, IsValue, IsImage, IsForm};
 
+use crate::tags;
 use cl_log::Form;
 use cl_types::{Key, Mode, NoMemory, TableName, TxnId, Value};
 use std::alloc::Global;
@@ -102,8 +103,8 @@ impl Writer {
         ensures { OnOk result (self.new ≡ self.old ++ byte (mode_byte mode)) }
     {
         self.byte(match mode {
-            Mode::Shared => 1,
-            Mode::Exclusive => 2,
+            Mode::Shared => tags::MODE_SHARED,
+            Mode::Exclusive => tags::MODE_EXCLUSIVE,
         })
     }
 

@@ -5,6 +5,7 @@ ghost use Rattle.cl_fields.specs.Spelling as spelling;
 ghost use Rattle.cl_fields.specs.Spelling.{txn_bytes, name_bytes, op_byte, operand_bytes, op_bytes, command_bytes, reply_bytes, cause_bytes, outcome_bytes, answer_bytes, entry_bytes, item_bytes, list_bytes};
 ghost use Rattle.cl_fields.specs.Range.{IsTxn, IsTable, IsKey, IsOp, IsCommand, IsReply, IsItem, IsCause, IsOutcome, IsAnswer, IsEntry, AreFew};
 
+use crate::tags;
 use crate::writer::Writer;
 use cl_log::{LogRec, TxnList};
 use cl_store::{Item, ItemList};
@@ -15,10 +16,10 @@ fn op_code(op: &Op) -> u8
     ensures { result ≡ op_byte op.now }
 {
     match op {
-        Op::Get => 1,
-        Op::Put(_) => 2,
-        Op::Del => 3,
-        Op::Add(_) => 4,
+        Op::Get => tags::OP_GET,
+        Op::Put(_) => tags::OP_PUT,
+        Op::Del => tags::OP_DEL,
+        Op::Add(_) => tags::OP_ADD,
     }
 }
 
@@ -56,10 +57,10 @@ impl Writer {
         ensures { OnOk result (self.new ≡ self.old ++ command_bytes command.now) }
     {
         match command {
-            Command::Begin => self.byte(0),
+            Command::Begin => self.byte(tags::COMMAND_BEGIN),
             Command::Work(table, key, op) => self.op(table, key, op),
-            Command::Commit => self.byte(5),
-            Command::Abort => self.byte(6),
+            Command::Commit => self.byte(tags::COMMAND_COMMIT),
+            Command::Abort => self.byte(tags::COMMAND_ABORT),
         }
     }
 
@@ -70,18 +71,18 @@ impl Writer {
         ensures { OnOk result (self.new ≡ self.old ++ reply_bytes reply.now) }
     {
         match reply {
-            Reply::Stored => self.byte(0),
+            Reply::Stored => self.byte(tags::REPLY_STORED),
             Reply::Found(value) => {
-                self.byte(1)?;
+                self.byte(tags::REPLY_FOUND)?;
                 self.value(value)
             }
-            Reply::Absent => self.byte(2),
+            Reply::Absent => self.byte(tags::REPLY_ABSENT),
             Reply::Sum(sum) => {
-                self.byte(3)?;
+                self.byte(tags::REPLY_SUM)?;
                 self.amount(*sum)
             }
-            Reply::NotNumber => self.byte(4),
-            Reply::OutOfRange => self.byte(5),
+            Reply::NotNumber => self.byte(tags::REPLY_NOT_NUMBER),
+            Reply::OutOfRange => self.byte(tags::REPLY_OUT_OF_RANGE),
         }
     }
 
@@ -93,15 +94,15 @@ impl Writer {
     {
         match cause {
             AbortCause::Conflict(holder) => {
-                self.byte(0)?;
+                self.byte(tags::CAUSE_CONFLICT)?;
                 self.txn(holder)
             }
             AbortCause::Node(node) => {
-                self.byte(1)?;
+                self.byte(tags::CAUSE_NODE)?;
                 self.small(node)
             }
-            AbortCause::Client => self.byte(2),
-            AbortCause::Memory => self.byte(3),
+            AbortCause::Client => self.byte(tags::CAUSE_CLIENT),
+            AbortCause::Memory => self.byte(tags::CAUSE_MEMORY),
         }
     }
 
@@ -113,13 +114,13 @@ impl Writer {
     {
         match outcome {
             Outcome::Done(reply) => {
-                self.byte(0)?;
+                self.byte(tags::OUTCOME_DONE)?;
                 self.reply(reply)
             }
-            Outcome::Begun => self.byte(1),
-            Outcome::Committed => self.byte(2),
+            Outcome::Begun => self.byte(tags::OUTCOME_BEGUN),
+            Outcome::Committed => self.byte(tags::OUTCOME_COMMITTED),
             Outcome::Aborted(cause) => {
-                self.byte(3)?;
+                self.byte(tags::OUTCOME_ABORTED)?;
                 self.cause(*cause)
             }
             // No controller gives these.
@@ -135,14 +136,14 @@ impl Writer {
     {
         match answer {
             Answer::Done(reply) => {
-                self.byte(0)?;
+                self.byte(tags::ANSWER_DONE)?;
                 self.reply(reply)
             }
             Answer::Refused(holder) => {
-                self.byte(1)?;
+                self.byte(tags::ANSWER_REFUSED)?;
                 self.txn(*holder)
             }
-            Answer::NoMemory => self.byte(2),
+            Answer::NoMemory => self.byte(tags::ANSWER_NO_MEMORY),
         }
     }
 
@@ -188,32 +189,32 @@ impl Writer {
     {
         match entry {
             LogRec::Touch(txn, table, key, mode) => {
-                self.placed(1, *txn, table, key)?;
+                self.placed(tags::ENTRY_TOUCH, *txn, table, key)?;
                 self.mode(*mode)
             }
             LogRec::Set(txn, table, key, before, old, new) => {
-                self.placed(2, *txn, table, key)?;
+                self.placed(tags::ENTRY_SET, *txn, table, key)?;
                 self.u64(*before)?;
                 self.image(old)?;
                 self.image(new)
             }
             LogRec::Add(txn, table, key, before, amount) => {
-                self.placed(3, *txn, table, key)?;
+                self.placed(tags::ENTRY_ADD, *txn, table, key)?;
                 self.u64(*before)?;
                 self.amount(*amount)
             }
             LogRec::Comp(txn, table, key, before, undone, form) => {
-                self.placed(4, *txn, table, key)?;
+                self.placed(tags::ENTRY_COMP, *txn, table, key)?;
                 self.u64(*before)?;
                 self.u64(*undone)?;
                 self.form(form)
             }
-            LogRec::Prepared(txn) => self.unplaced(5, *txn),
+            LogRec::Prepared(txn) => self.unplaced(tags::ENTRY_PREPARED, *txn),
             LogRec::End(txn, commit) => {
-                self.unplaced(6, *txn)?;
+                self.unplaced(tags::ENTRY_END, *txn)?;
                 self.flag(*commit)
             }
-            LogRec::Decide(txn) => self.unplaced(7, *txn),
+            LogRec::Decide(txn) => self.unplaced(tags::ENTRY_DECIDE, *txn),
         }
     }
 
