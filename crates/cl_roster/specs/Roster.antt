@@ -4,14 +4,15 @@ use Rattle.std.specs.List.{list_any, find, range_with_len}
 use Rattle.cl_types.specs.declared.answers.StopFault.{StopFault}
 use Rattle.cl_types.specs.declared.answers.StopFault.TheVariants.{Unknown, Down, Last}
 use Rattle.cl_types.specs.Placement.{IsNodeCount}
+use Rattle.cl_roster.specs.declared.limits.TheConstants.{SPARES_MAX}
 use Rattle.cl_roster.specs.declared.entry.RosterEntry.{RosterEntry}
 use Rattle.cl_roster.specs.declared.entry.RosterEntry.TheVariants.{Stopped, Repaired}
 use Rattle.cl_roster.specs.Roles.{roles_after, is_member, is_only_member}
 
--- 2, 4, 6 or 8 nodes, and at most 8 spares
+-- 2, 4, 6 or 8 nodes, and not too many spares
 pub record IsClusterSize (nodes spares : ℕ) : Type 0 where
   pub counted : IsNodeCount nodes
-  pub few_spares : spares ≤ 8
+  pub few_spares : spares ≤ SPARES_MAX
 
 -- the site of a node
 abbrev pub site : ℕ → ℕ

@@ -3,7 +3,7 @@ ghost use Rattle.std.specs.Prelude.{◌≡◌, ◌+◌, ◌<◌, ◌≤◌, leng
 ghost use Rattle.cl_roster.specs.Roster.{IsClusterSize};
 
 use cl_roster::{
-    Roles, Roster, RosterEntry, lawful_rosters, members_are_sound, one_entry_more,
+    Roles, Roster, RosterEntry, SPARES_MAX, lawful_rosters, members_are_sound, one_entry_more,
     rosters_are_lawful, verdicts_and_spares, what_stays,
 };
 use cl_types::{NoMemory, StopFault, is_node_count};
@@ -271,7 +271,7 @@ fn turns(roster: &mut Roster, alloc: Global, run: Run, turn: u32) -> Result<bool
 
 // Whether verdicts, roles and living nodes agree with the plain lists throughout the run.
 fn agrees(alloc: Global, run: Run) -> Result<bool, NoMemory> {
-    if !is_node_count(run.nodes) || run.spares > 8 {
+    if !is_node_count(run.nodes) || run.spares > SPARES_MAX as u32 {
         return Ok(false);
     }
     let known = run.nodes + run.spares;
