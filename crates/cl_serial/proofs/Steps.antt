@@ -1,4 +1,4 @@
--- A session after one more question or answer, and the replay of two histories, one behind the other.
+-- A transcript with one more entry, a session after one more question or answer, and the replay of two histories, one behind the other.
 use Rattle.std.proofs.Common.{◌≡◌, ℕ, ◌≤◌, List, [], ◌∷◌, ◌++◌, length, Option, Some, None, IsSome, refl, sym, ◌∙◌, ap, arith, if◌then◌else◌}
 use Rattle.std.proofs.lemmas.List.{append-nil}
 use Rattle.std.proofs.lemmas.List.Elements.{All-nil, All-cons, All-head, All-tail}
@@ -10,7 +10,7 @@ use Rattle.cl_types.specs.declared.operations.TxnId.{TxnId}
 use Rattle.cl_types.specs.declared.answers.Outcome.{Outcome}
 use Rattle.cl_lines.specs.declared.out.Out.TheVariants.{Answer}
 use Rattle.cl_lines.specs.Line.{client_of}
-use Rattle.cl_serial.specs.Transcript.{TranscriptEntry, fed, written, asked_in, answered_in, questions, answers, command_in, outcome_in}
+use Rattle.cl_serial.specs.Transcript.{TranscriptEntry, entry_text, full_text, fed, written, asked_in, answered_in, questions, answers, command_in, outcome_in}
 use Rattle.cl_serial.specs.Exchanges.{Exchange, unanswered, answered, AreAnswered, pair_up, exchanges, in_turn, after_answer, with_first_answered}
 use Rattle.cl_serial.specs.Transactions.{session_step, session_after, session_state, commands_of}
 use Rattle.cl_serial.specs.PlainMap.{operations, no_values, after_operation, after_operations}
@@ -117,7 +117,10 @@ session_state-answered session transcript outcome before asked all waiting =
     ∙ ap session_after (in_turn-last before (answered asked one) all)
     ∙ session_after-push before (answered asked one)
 
--- ---- any other entry
+-- ---- any entry
+
+pub full_text-push : (transcript : List TranscriptEntry) (entry : TranscriptEntry) → full_text (transcript ++ entry ∷ []) ≡ full_text transcript ++ entry_text entry
+full_text-push transcript entry = flat_map-append entry_text transcript (entry ∷ []) ∙ ap (λ more. full_text transcript ++ more) (append-nil (entry_text entry))
 
 pub exchanges-other : (session : ℕ) (transcript : List TranscriptEntry) (entry : TranscriptEntry) →
     asked_in session (length transcript) entry ≡ [] → answered_in session (length transcript) entry ≡ [] → exchanges session (transcript ++ entry ∷ []) ≡ exchanges session transcript

@@ -5,7 +5,7 @@ use Rattle.cl_types.specs.declared.operations.TxnId.{TxnId}
 use Rattle.cl_types.specs.declared.answers.Outcome.{Outcome}
 use Rattle.cl_lines.specs.declared.out.Out.TheVariants.{Answer}
 use Rattle.cl_lines.specs.Line.{client_of}
-use Rattle.cl_serial.specs.Transcript.{TranscriptEntry, fed, written, asked_in, answered_in, questions, answers}
+use Rattle.cl_serial.specs.Transcript.{TranscriptEntry, fed, written, fed_line, fed_lines, entry_text, full_text, asked_in, answered_in, questions, answers, faulty_in, faulty_lines, refused_in, refusals}
 use Rattle.cl_serial.specs.Exchanges.{Exchange, unanswered, answered, AreAnswered, exchanges, with_first_answered}
 use Rattle.cl_serial.specs.Transactions.{session_step, session_after, session_state}
 use Rattle.cl_serial.specs.PlainMap.{Values, Operation, after_operations, RepliesAgree}
@@ -20,6 +20,24 @@ EntryAddsItsQuestion = (session : ℕ) (transcript : List TranscriptEntry) (entr
 abbrev pub EntryAddsItsAnswer : Type 0
 EntryAddsItsAnswer = (session : ℕ) (transcript : List TranscriptEntry) (entry : TranscriptEntry) →
     answers session (transcript ++ entry ∷ []) ≡ answers session transcript ++ answered_in session (length transcript) entry
+
+-- one more entry adds its line to those that were fed, its fault to those of fed lines, and its refusal to those written
+abbrev pub EntryAddsItsLine : Type 0
+EntryAddsItsLine = (transcript : List TranscriptEntry) (entry : TranscriptEntry) →
+    fed_lines (transcript ++ entry ∷ []) ≡ fed_lines transcript ++ fed_line (length transcript) entry
+
+abbrev pub EntryAddsItsFault : Type 0
+EntryAddsItsFault = (transcript : List TranscriptEntry) (entry : TranscriptEntry) →
+    faulty_lines (transcript ++ entry ∷ []) ≡ faulty_lines transcript ++ faulty_in (length transcript) entry
+
+abbrev pub EntryAddsItsRefusal : Type 0
+EntryAddsItsRefusal = (transcript : List TranscriptEntry) (entry : TranscriptEntry) →
+    refusals (transcript ++ entry ∷ []) ≡ refusals transcript ++ refused_in (length transcript) entry
+
+-- and its text to the full text
+abbrev pub EntryAddsItsText : Type 0
+EntryAddsItsText = (transcript : List TranscriptEntry) (entry : TranscriptEntry) →
+    full_text (transcript ++ entry ∷ []) ≡ full_text transcript ++ entry_text entry
 
 -- an entry that neither asks nor answers in a session leaves its exchanges
 abbrev pub OtherEntryLeavesExchanges : Type 0

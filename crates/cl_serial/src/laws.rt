@@ -1,10 +1,15 @@
 //! The laws of transcripts and replays. A law is the contract of a function that does nothing.
-ghost use Rattle.cl_serial.specs.Laws.{EntryAddsItsQuestion, EntryAddsItsAnswer, OtherEntryLeavesExchanges, QuestionAddsExchange, QuestionStepsSession, AnswerFillsExchange, AnswerStepsSession, HistoriesJoin, BackReplaysAfterFront, RepliesJoin};
+ghost use Rattle.cl_serial.specs.Laws.{EntryAddsItsQuestion, EntryAddsItsAnswer, EntryAddsItsLine, EntryAddsItsFault, EntryAddsItsRefusal, EntryAddsItsText, OtherEntryLeavesExchanges, QuestionAddsExchange, QuestionStepsSession, AnswerFillsExchange, AnswerStepsSession, HistoriesJoin, BackReplaysAfterFront, RepliesJoin};
 
-/// One more entry adds to each session what it asks and answers there, and nothing else.
+/// One more entry adds what it says, at its position: to each session what it asks and answers there, and to the whole
+/// its line, its fault, its refusal and its text.
 pub fn one_more_entry()
     ensures question { EntryAddsItsQuestion }
     ensures answer { EntryAddsItsAnswer }
+    ensures line { EntryAddsItsLine }
+    ensures fault { EntryAddsItsFault }
+    ensures refusal { EntryAddsItsRefusal }
+    ensures text { EntryAddsItsText }
     ensures neither { OtherEntryLeavesExchanges }
 {}
 
