@@ -87,7 +87,7 @@ numbered_more n i xs x h e =
     ∙ numbered_push n (take i xs) x
     ∙ ap (λ k. numbered n (take i xs) ++ (let entry : LogEntry = record { number = n + k; content = x } in entry) ∷ []) (length-take-le i xs (omega arith))
 
--- the record at a place, and those after it
+-- the record at an index, and those after it
 pub drop-numbered : (n i : ℕ) (xs : List LogRec) (x : LogRec) → i < length xs → x ≡ get_or xs i x → drop i (numbered n xs) ≡ record { number = n + i; content = x } ∷ drop (i + 1) (numbered n xs)
 drop-numbered n i [] x h e = absurd (omega arith)
 drop-numbered n zero (y ∷ xs) x h e =

@@ -2,6 +2,7 @@
 use Rattle.std.proofs.Common.{◌≡◌, ℕ, ◌+◌, ◌<◌, Bool, true, false, not, cond, ◌&&◌, ◌||◌, length, take, get_or, List, [], ◌∷◌, ◌++◌, map, Option, Some, None, refl, sym, ap, ◌∙◌, inl, inr, arith}
 use Rattle.std.specs.List.{list_any, filter, find, fold, position_from}
 use Rattle.std.specs.Option.{option_map, option_map_or}
+use Rattle.std.proofs.Math.Bool.{and_comm}
 use Rattle.std.proofs.lemmas.Bool.{cond-true, cond-false, cases_Bool, and_from, and_right, not_from_false, not_from_true, or_left, or_right}
 use Rattle.std.proofs.lemmas.List.{map-append}
 use Rattle.std.proofs.lemmas.List.Elements.{filter-append, filter_agree}
@@ -10,9 +11,11 @@ use Rattle.std.proofs.lemmas.List.Sums.{fold_push}
 use Rattle.cl_types.specs.declared.operations.TxnId.{TxnId}
 use Rattle.cl_log.specs.declared.records.LogRec.{LogRec}
 use Rattle.cl_log.specs.declared.stage.Stage.TheVariants.{Unknown, Running, Prepared, Ended}
+use Rattle.cl_log.specs.declared.scans.Sought.TheVariants.{Opening, End}
 use Rattle.cl_log.specs.LogEntry.{LogEntry, numbered}
 use Rattle.cl_log.specs.Kind.{txn_of, is_of, opens, is_prepared, is_end}
 use Rattle.cl_log.specs.Open.{is_among, has_record, has_begun, has_prepared, has_ended, is_open, chain_of, with_txn, txns_of, unended_of, stage_of, low_of, is_under_way}
+use Rattle.cl_log.specs.Sought.{is_sought}
 use Rattle.cl_log.proofs.Numbered.{list_any-numbered, numbered_more, find-numbered, position_from-shift, position_from-agree}
 use Rattle.cl_log.proofs.Txn.{filter_with_txn}
 
@@ -193,9 +196,9 @@ cong_stage {a} {b} {c} {d} {e} {f} begun ended prepared =
 pub stage_of-renumbered : (txn : TxnId) (m n : ℕ) (xs : List LogRec) → stage_of (numbered m xs) txn ≡ stage_of (numbered n xs) txn
 stage_of-renumbered txn m n xs = cong_stage (has_begun-renumbered txn m n xs) (has_ended-renumbered txn m n xs) (has_prepared-renumbered txn m n xs)
 
--- where the first open transaction begins, by the place of its first record
+-- where the first open transaction begins, by the index of its first record
 pub low_of-numbered : (n : ℕ) (xs : List LogRec) (next : ℕ) →
-    low_of (numbered n xs) next ≡ option_map_or (λ place. n + place) (position_from (λ content. is_open (numbered 0 xs) (txn_of content)) 0 xs) next
+    low_of (numbered n xs) next ≡ option_map_or (λ index. n + index) (position_from (λ content. is_open (numbered 0 xs) (txn_of content)) 0 xs) next
 unfolding low_of
 low_of-numbered n xs next =
     mapped (find (λ (e : LogEntry). is_open (numbered n xs) (txn_of e.content)) (numbered n xs)) next
@@ -210,13 +213,13 @@ low_of-numbered n xs next =
     mapped None next = refl
     mapped (Some e) next = refl
 
-    again : (n : ℕ) (o : Option ℕ) (next : ℕ) → option_map_or (λ (k : ℕ). k) (option_map (λ i. n + i) o) next ≡ option_map_or (λ place. n + place) o next
+    again : (n : ℕ) (o : Option ℕ) (next : ℕ) → option_map_or (λ (k : ℕ). k) (option_map (λ i. n + i) o) next ≡ option_map_or (λ index. n + index) o next
     again n None next = refl
     again n (Some i) next = refl
 
-pub low_of_place : (n : ℕ) (xs : List LogRec) (next : ℕ) (o : Option ℕ) → o ≡ position_from (λ content. is_open (numbered 0 xs) (txn_of content)) 0 xs →
-    option_map_or (λ place. n + place) o next ≡ low_of (numbered n xs) next
-low_of_place n xs next o e = ap (λ o. option_map_or (λ place. n + place) o next) e ∙ sym (low_of-numbered n xs next)
+pub low_of-index : (n : ℕ) (xs : List LogRec) (next : ℕ) (o : Option ℕ) → o ≡ position_from (λ content. is_open (numbered 0 xs) (txn_of content)) 0 xs →
+    option_map_or (λ index. n + index) o next ≡ low_of (numbered n xs) next
+low_of-index n xs next o e = ap (λ o. option_map_or (λ index. n + index) o next) e ∙ sym (low_of-numbered n xs next)
 
 -- a transaction is open by its stage
 pub is_open-stage : (entries : List LogEntry) (txn : TxnId) → is_open entries txn ≡ is_under_way (stage_of entries txn)
@@ -227,3 +230,10 @@ is_open-stage entries txn = by_parts (has_begun entries txn) (has_ended entries 
     by_parts true true prepared = refl
     by_parts true false true = refl
     by_parts true false false = refl
+
+-- whether a transaction is open, by what is sought among the records
+pub is_open-sought : (txn : TxnId) (xs : List LogRec) → is_open (numbered 0 xs) txn ≡ (not (list_any (is_sought (End txn)) xs) && list_any (is_sought (Opening txn)) xs)
+unfolding has_begun has_ended
+is_open-sought txn xs =
+    cong_and (list_any-numbered (is_sought (Opening txn)) 0 xs) (ap not (list_any-numbered (is_sought (End txn)) 0 xs))
+    ∙ and_comm (list_any (is_sought (Opening txn)) xs) (not (list_any (is_sought (End txn)) xs))

@@ -1,6 +1,6 @@
 -- How the rest of a transaction grows and shrinks with its log.
 use Rattle.std.proofs.Common.{◌≡◌, ◌≢◌, ℕ, zero, suc, ◌+◌, ◌<◌, ◌≤◌, Bool, true, false, not, cond, eqb, ◌&&◌, ◌||◌, List, [], ◌∷◌, ◌++◌, length, take, drop, get_or, reverse, Option, Some, None, refl, sym, ap, ◌∙◌, subst, arith}
-use Rattle.std.specs.List.{filter}
+use Rattle.std.specs.List.{list_any, filter}
 use Rattle.std.proofs.lemmas.List.{append-nil, reverse-append, reverse-reverse, take-append-drop}
 use Rattle.std.proofs.lemmas.List.Elements.{filter-append, filter_agree}
 use Rattle.std.proofs.lemmas.Bool.{and_left, and_right, and_parts, cond-true, cond-false, not-true, not_from_true, not_from_false, ne_eqb, eq-eqb, false≢true}
@@ -12,12 +12,19 @@ use Rattle.cl_log.proofs.Entries.{IsNumberedFrom-append}
 use Rattle.cl_log.specs.LogEntry.{LogEntry, numbered, IsNumberedFrom, content_at}
 use Rattle.cl_log.specs.Kind.{txn_of, is_of, can_be_undone, undoes}
 use Rattle.cl_log.specs.Rest.{is_undone, is_left_of, rest_to_undo, first_number, undo_of}
+use Rattle.cl_log.specs.declared.scans.Sought.TheVariants.{Compensation}
+use Rattle.cl_log.specs.Sought.{is_sought}
 use Rattle.cl_log.proofs.Numbered.{list_any-numbered, drop-numbered, content_at-entry}
 use Rattle.cl_log.proofs.Open.{list_any_push, or_false}
 
 pub is_undone-renumbered : (number m n : ℕ) (xs : List LogRec) → is_undone (numbered m xs) number ≡ is_undone (numbered n xs) number
 unfolding is_undone
 is_undone-renumbered number m n xs = list_any-numbered (undoes number) m xs ∙ sym (list_any-numbered (undoes number) n xs)
+
+-- whether a number is undone, by what is sought among the records
+pub is_undone-sought : (number : ℕ) (xs : List LogRec) → is_undone (numbered 0 xs) number ≡ list_any (is_sought (Compensation number)) xs
+unfolding is_undone
+is_undone-sought number xs = list_any-numbered (is_sought (Compensation number)) 0 xs
 
 -- the rest from the last entry that passes
 first-reverse-filter : (p : LogEntry → Bool) (xs : List LogEntry) (x : LogEntry) (ys : List LogEntry) → p x ≡ true → filter p ys ≡ [] → first_number (reverse (filter p (xs ++ x ∷ ys))) ≡ Some x.number
@@ -36,25 +43,25 @@ pub first_of_no_rest : (entries : List LogEntry) (txn : TxnId) → filter (is_le
 unfolding rest_to_undo
 first_of_no_rest entries txn none = ap (λ es. first_number (reverse es)) none
 
--- a walk from the end: nothing from the place on is left
-pub left_none : (entries : List LogEntry) (txn : TxnId) (place : ℕ) → place ≤ 0 → filter (is_left_of entries txn) (drop place entries) ≡ [] → first_number (rest_to_undo entries txn) ≡ None
+-- a walk from the end: nothing from the index on is left
+pub left_none : (entries : List LogEntry) (txn : TxnId) (index : ℕ) → index ≤ 0 → filter (is_left_of entries txn) (drop index entries) ≡ [] → first_number (rest_to_undo entries txn) ≡ None
 left_none entries txn zero h none = first_of_no_rest entries txn none
-left_none entries txn (suc place) h none = absurd (omega arith)
+left_none entries txn (suc index) h none = absurd (omega arith)
 
--- at the record before the place
-module _ (n place : ℕ) (xs : List LogRec) (x : LogRec) (txn : TxnId) (within : place + 1 ≤ length xs) (at : x ≡ get_or xs place x) where
-  pub left_step : is_left_of (numbered n xs) txn (record { number = n + place; content = x }) ≡ false →
-      filter (is_left_of (numbered n xs) txn) (drop (place + 1) (numbered n xs)) ≡ [] → filter (is_left_of (numbered n xs) txn) (drop place (numbered n xs)) ≡ []
+-- at the record before the index
+module _ (n index : ℕ) (xs : List LogRec) (x : LogRec) (txn : TxnId) (within : index + 1 ≤ length xs) (at : x ≡ get_or xs index x) where
+  pub left_step : is_left_of (numbered n xs) txn (record { number = n + index; content = x }) ≡ false →
+      filter (is_left_of (numbered n xs) txn) (drop (index + 1) (numbered n xs)) ≡ [] → filter (is_left_of (numbered n xs) txn) (drop index (numbered n xs)) ≡ []
   left_step f none =
-      ap (filter (is_left_of (numbered n xs) txn)) (drop-numbered n place xs x (omega arith) at)
-      ∙ ap (λ b. cond b ((let entry : LogEntry = record { number = n + place; content = x } in entry) ∷ filter (is_left_of (numbered n xs) txn) (drop (place + 1) (numbered n xs))) (filter (is_left_of (numbered n xs) txn) (drop (place + 1) (numbered n xs)))) f
+      ap (filter (is_left_of (numbered n xs) txn)) (drop-numbered n index xs x (omega arith) at)
+      ∙ ap (λ b. cond b ((let entry : LogEntry = record { number = n + index; content = x } in entry) ∷ filter (is_left_of (numbered n xs) txn) (drop (index + 1) (numbered n xs))) (filter (is_left_of (numbered n xs) txn) (drop (index + 1) (numbered n xs)))) f
       ∙ none
 
-  pub left_found : is_left_of (numbered n xs) txn (record { number = n + place; content = x }) ≡ true →
-      filter (is_left_of (numbered n xs) txn) (drop (place + 1) (numbered n xs)) ≡ [] → first_number (rest_to_undo (numbered n xs) txn) ≡ Some (n + place)
+  pub left_found : is_left_of (numbered n xs) txn (record { number = n + index; content = x }) ≡ true →
+      filter (is_left_of (numbered n xs) txn) (drop (index + 1) (numbered n xs)) ≡ [] → first_number (rest_to_undo (numbered n xs) txn) ≡ Some (n + index)
   left_found t none =
-      first_of_rest (numbered n xs) txn (take place (numbered n xs)) (record { number = n + place; content = x }) (drop (place + 1) (numbered n xs))
-      (sym (take-append-drop place (numbered n xs)) ∙ ap (λ es. take place (numbered n xs) ++ es) (drop-numbered n place xs x (omega arith) at))
+      first_of_rest (numbered n xs) txn (take index (numbered n xs)) (record { number = n + index; content = x }) (drop (index + 1) (numbered n xs))
+      (sym (take-append-drop index (numbered n xs)) ∙ ap (λ es. take index (numbered n xs) ++ es) (drop-numbered n index xs x (omega arith) at))
       t none
 
 pub is_undone_push : (number : ℕ) (entries : List LogEntry) (entry : LogEntry) → is_undone (entries ++ entry ∷ []) number ≡ (is_undone entries number || undoes number entry.content)

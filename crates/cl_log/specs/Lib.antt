@@ -5,6 +5,7 @@ pub mod Log
 pub mod Open
 pub mod Rest
 pub mod Settled
+pub mod Sought
 pub mod Store
 pub mod Lawful
 pub mod Laws

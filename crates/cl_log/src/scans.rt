@@ -3,74 +3,68 @@ ghost use Rattle.std.specs.Prelude.{◌≡◌, ◌+◌, ◌^◌, ◌<◌, ◌≤
 ghost use Rattle.std.specs.List.{list_any, position_from};
 ghost use Rattle.cl_types.specs.GrowingList.{items};
 ghost use Rattle.cl_log.specs.LogEntry.{numbered};
-ghost use Rattle.cl_log.specs.Kind.{txn_of, is_of, opens, is_prepared, is_end, undoes, can_be_undone};
-ghost use Rattle.cl_log.specs.Open.{has_begun, has_ended, is_open, is_among, stage_of, low_of, chain_of, unended_of};
+ghost use Rattle.cl_log.specs.Kind.{txn_of, is_of, opens, is_prepared, is_end, can_be_undone};
+ghost use Rattle.cl_log.specs.Open.{is_open, is_among, stage_of, low_of, chain_of, unended_of};
 ghost use Rattle.cl_log.specs.Rest.{is_undone, rest_to_undo, first_number};
+ghost use Rattle.cl_log.specs.Sought.{is_sought};
 
 use crate::kinds::is_same_txn;
 use crate::{LogRec, NumberList, Stage, TxnList};
 use cl_types::{NoMemory, TxnId};
 use std::alloc::Global;
 
-// Whether one of these records opens the transaction.
-fn some_opens(records: &[LogRec], txn: TxnId) -> bool
-    ensures { result ≡ list_any (λ content. is_of txn content && opens content) records.now }
-{
-    records
-        .iter()
-        .any(|content| content.is_of(txn) && content.opens())
+// What is looked for among records: what opens a transaction, its End, or the compensation of the
+// write of a number.
+#[derive(Clone, Copy)]
+enum Sought {
+    Opening(TxnId),
+    End(TxnId),
+    Compensation(u64),
 }
 
-// Whether one of these records ends the transaction.
-fn some_ends(records: &[LogRec], txn: TxnId) -> bool
-    ensures { result ≡ list_any (λ content. is_of txn content && is_end content) records.now }
+// Whether the record is what is sought.
+fn is_sought(sought: Sought, content: &LogRec) -> bool
+    ensures { result ≡ is_sought sought content.now }
 {
-    records
-        .iter()
-        .any(|content| content.is_of(txn) && content.is_end())
+    match sought {
+        Sought::Opening(txn) => content.is_of(txn) && content.opens(),
+        Sought::End(txn) => content.is_of(txn) && content.is_end(),
+        Sought::Compensation(number) => content.undoes(number),
+    }
 }
 
-// Whether one of these records is a compensation that names the number as undone.
-fn some_undoes(records: &[LogRec], number: u64) -> bool
-    ensures { result ≡ list_any (λ content. undoes number content) records.now }
+// Whether one of these records is what is sought.
+fn is_in(records: &[LogRec], sought: Sought) -> bool
+    ensures { result ≡ list_any (is_sought sought) records.now }
 {
-    records.iter().any(|content| content.undoes(number))
+    records.iter().any(|content| is_sought(sought, content))
 }
 
-// Whether the transaction has a Touch, Set, Add or Prepared: one is sought from the index to the
-// end first, then before the index.
-fn has_begun(records: &[LogRec], index: usize, txn: TxnId) -> bool
+// Whether one of the records is what is sought. It reads from the index to the end first, since what
+// is sought stands there in a log, and then before the index.
+fn is_found(records: &[LogRec], index: usize, sought: Sought) -> bool
     requires { index ≤ length records.now }
-    ensures { result ≡ has_begun (numbered 0 records.now) txn }
+    ensures { result ≡ list_any (is_sought sought) records.now }
 {
-    some_opens(&records[index..], txn) || some_opens(&records[..index], txn)
-}
-
-// Whether the transaction has an End: one is sought from the index to the end first, then before
-// the index.
-fn has_ended(records: &[LogRec], index: usize, txn: TxnId) -> bool
-    requires { index ≤ length records.now }
-    ensures { result ≡ has_ended (numbered 0 records.now) txn }
-{
-    some_ends(&records[index..], txn) || some_ends(&records[..index], txn)
-}
-
-// Whether a compensation names the number as undone: one is sought from the index to the end first,
-// then before the index.
-fn is_undone(records: &[LogRec], index: usize, number: u64) -> bool
-    requires { index ≤ length records.now }
-    ensures { result ≡ is_undone (numbered 0 records.now) number }
-{
-    some_undoes(&records[index..], number) || some_undoes(&records[..index], number)
+    is_in(&records[index..], sought) || is_in(&records[..index], sought)
 }
 
 // Whether the transaction of the record at the index is open. Where its End follows that record, it
-// reads up to the End alone.
+// reads no further than the End.
 fn is_open(records: &[LogRec], index: usize, txn: TxnId) -> bool
     requires { index ≤ length records.now }
     ensures { result ≡ is_open (numbered 0 records.now) txn }
 {
-    !has_ended(records, index, txn) && has_begun(records, index, txn)
+    !is_found(records, index, Sought::End(txn)) && is_found(records, index, Sought::Opening(txn))
+}
+
+// Whether the write of the number, which stands at the index, has a compensation. Where that follows
+// the write, it reads no further than that.
+fn is_undone(records: &[LogRec], index: usize, number: u64) -> bool
+    requires { index ≤ length records.now }
+    ensures { result ≡ is_undone (numbered 0 records.now) number }
+{
+    is_found(records, index, Sought::Compensation(number))
 }
 
 // Whether the transaction is among these.
