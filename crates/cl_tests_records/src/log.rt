@@ -184,7 +184,7 @@ fn an_empty_log_needs_what_comes(rt: HostRuntime) -> Result<(), Fail> {
     Ok(())
 }
 
-// A record as a log with these numbers may have it: an End may stand before what opens.
+// A record of a log in which an End or a compensation may stand before what it belongs to.
 #[derive(Clone, Copy)]
 enum Told {
     Touch(TxnId),
