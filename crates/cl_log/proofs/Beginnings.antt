@@ -16,7 +16,7 @@ use Rattle.cl_log.specs.Rest.{rest_to_undo}
 use Rattle.cl_log.specs.Settled.{settled}
 use Rattle.cl_log.proofs.Conflicts.{HasNoConflict-lawful, is_undone-next, undoes_in_order-after}
 use Rattle.cl_log.proofs.Entries.{EachAfter-append, EachAfter_push, IsNumberedFrom-append}
-use Rattle.cl_log.proofs.KindFacts.{can_be_undone-opens, write_end}
+use Rattle.cl_log.proofs.KindFacts.{can_be_undone-opens}
 use Rattle.cl_log.proofs.Rest.{first_of_rest_is}
 use Rattle.cl_log.proofs.Settled.{has_begun-at, settled_after_mark, settled_after_write, settled_after_end, settled_after_undo}
 
