@@ -7,3 +7,5 @@ pub mod OneWhole
 pub mod Ledgers
 pub mod StepLemmas
 pub mod LawLemmas
+pub mod Examples
+pub mod EnabledExample
