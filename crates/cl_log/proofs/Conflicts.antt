@@ -1,6 +1,6 @@
 -- Locks that are granted only where they are free never conflict.
-use Rattle.std.proofs.Common.{◌≡◌, ℕ, ◌+◌, ◌<◌, ◌≤◌, Bool, true, false, cond, ◌⊎◌, List, [], ◌∷◌, ◌++◌, length, Option, Some, None, refl, sym, ap, ◌∙◌, subst, inl, inr, arith}
-use Rattle.std.proofs.lemmas.Bool.{cond-true, cond-false, false≢true, false_from_ne_true, eqb-true, or_from}
+use Rattle.std.proofs.Common.{◌≡◌, ℕ, ◌+◌, ◌<◌, ◌≤◌, Bool, true, false, cond, ◌⊎◌, List, [], ◌∷◌, ◌++◌, length, Option, Some, None, refl, sym, ap, ◌∙◌, subst, inl, inr, arith, inl, inr}
+use Rattle.std.proofs.lemmas.Bool.{cases_Bool, cond-true, cond-false, false≢true, false_from_ne_true, eqb-true, or_from}
 use Rattle.std.proofs.lemmas.List.{append_assoc, append-nil, length-append}
 use Rattle.cl_types.specs.declared.operations.Mode.{Mode}
 use Rattle.cl_types.specs.declared.operations.Mode.TheVariants.{Shared, Exclusive}
@@ -8,16 +8,17 @@ use Rattle.cl_types.specs.declared.operations.TxnId.{TxnId}
 use Rattle.cl_types.specs.Modes.{stronger, is_conflict}
 use Rattle.cl_types.specs.Places.{Place}
 use Rattle.cl_types.proofs.Modes.{is_conflict-symmetric}
-use Rattle.cl_types.proofs.Transactions.{same_txn-true}
+use Rattle.cl_types.proofs.Transactions.{same_txn-true, same_txn-itself}
 use Rattle.cl_log.specs.declared.records.LogRec.{LogRec}
-use Rattle.cl_log.specs.declared.records.LogRec.TheVariants.{Decide}
+use Rattle.cl_log.specs.declared.records.LogRec.TheVariants.{Decide, End}
 use Rattle.cl_log.specs.LogEntry.{LogEntry, IsNumberedFrom, EachAfter}
 use Rattle.cl_log.specs.Kind.{txn_of, is_of, is_end, undoes, number_before}
 use Rattle.cl_log.specs.Lawful.{IsLawful, IsLawfulLog, UndoesFirst, UndoesInOrder, is_decide}
 use Rattle.cl_log.specs.Locks.{mode_at, locks_of_log, locks_after, takes_lock, HasNoConflict}
+use Rattle.cl_log.specs.Open.{has_ended}
 use Rattle.cl_log.specs.Rest.{is_undone}
 use Rattle.cl_log.proofs.Entries.{IsNumberedFrom-append, append-IsNumberedFrom}
-use Rattle.cl_log.proofs.Locks.{locks_of_log_push, locks_of_log-nil}
+use Rattle.cl_log.proofs.Locks.{mode_at-none, locks_of_log_push, locks_of_log-nil}
 use Rattle.cl_log.proofs.Rest.{HeadsRest-from, first_of_rest_is, undoes-undo_of, is_undone_push}
 
 abbrev UndoesAsNext : List LogEntry → LogEntry → Type 0
@@ -34,6 +35,11 @@ conflict_of_stronger (Some Shared) (Some b) other h = inr h
 takes_lock-decide : (content : LogRec) → takes_lock content ≡ true → is_decide content ≡ false
 takes_lock-decide (Decide txn) h = absurd (false≢true h)
 takes_lock-decide content h = refl
+
+-- an End takes none
+pub end_takes_none : (content : LogRec) → is_end content ≡ true → takes_lock content ≡ false
+end_takes_none (End txn commit) h = refl
+end_takes_none content h = absurd (false≢true h)
 
 -- the locks after one more lawful record
 pub locks_after_lawful : (history : List TxnId) (seen : List LogEntry) (entry : LogEntry) (txn : TxnId) (place : Place) → IsLawful history seen entry →
@@ -129,3 +135,37 @@ is_undone-next n entries number numbers in_order beyond =
 pub undoes_in_order-after : (history : List TxnId) (seen entries : List LogEntry) → EachAfter (IsLawful history) seen entries → EachAfter UndoesAsNext seen entries
 undoes_in_order-after history seen [] lawful = tt
 undoes_in_order-after history seen (x ∷ xs) lawful = (lawful.0.in_order, undoes_in_order-after history (seen ++ x ∷ []) xs lawful.1)
+
+-- what conflicts with one of two modes conflicts with the stronger
+pub conflict_of_asked : (a b other : Option Mode) → is_conflict b other ≡ true → is_conflict (stronger a b) other ≡ true
+conflict_of_asked None b other h = h
+conflict_of_asked (Some Exclusive) None other h = absurd (false≢true h)
+conflict_of_asked (Some Exclusive) (Some Shared) None h = absurd (false≢true h)
+conflict_of_asked (Some Exclusive) (Some Exclusive) None h = absurd (false≢true h)
+conflict_of_asked (Some Exclusive) (Some b) (Some other) h = refl
+conflict_of_asked (Some Shared) None other h = absurd (false≢true h)
+conflict_of_asked (Some Shared) (Some b) other h = h
+
+-- a record after which no locks conflict found its lock free
+pub found_free : (entries : List LogEntry) (entry : LogEntry) → HasNoConflict (entries ++ entry ∷ []) → (takes_lock entry.content ≡ true → has_ended entries (txn_of entry.content) ≡ false) →
+    (other : TxnId) (place : Place) → is_conflict (mode_at place entry.content) (locks_of_log entries other place) ≡ true → other ≡ txn_of entry.content
+found_free entries entry apart running other place conflict =
+    elim (cases_Bool (is_of other entry.content)) [
+      | inl own ↦ sym (same_txn-true (txn_of entry.content) other own)
+      | inr off ↦ sym (apart (txn_of entry.content) other place
+          (ap (λ m. is_conflict m (locks_of_log (entries ++ entry ∷ []) other place)) own_lock
+          ∙ ap (is_conflict (stronger (locks_of_log entries (txn_of entry.content) place) (mode_at place entry.content)))
+          (locks_of_log_push entries entry other place running ∙ cond-false _ _ _ off)
+          ∙ conflict_of_asked (locks_of_log entries (txn_of entry.content) place) (mode_at place entry.content) (locks_of_log entries other place) conflict))
+    ]
+  where
+    -- an End locks nothing
+    no_end : (b : Bool) → is_end entry.content ≡ b → is_end entry.content ≡ false
+    no_end false f = f
+    no_end true t =
+        absurd (false≢true (sym (ap (λ m. is_conflict m (locks_of_log entries other place)) (mode_at-none place entry.content (end_takes_none entry.content t))) ∙ conflict))
+
+    own_lock : locks_of_log (entries ++ entry ∷ []) (txn_of entry.content) place ≡ stronger (locks_of_log entries (txn_of entry.content) place) (mode_at place entry.content)
+    own_lock =
+        locks_of_log_push entries entry (txn_of entry.content) place running
+        ∙ cond-true _ _ _ (same_txn-itself (txn_of entry.content)) ∙ cond-false _ _ _ (no_end (is_end entry.content) refl)

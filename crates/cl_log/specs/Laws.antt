@@ -4,13 +4,14 @@ use Rattle.std.specs.List.{IsDistinct}
 use Rattle.cl_types.specs.declared.operations.Mode.TheVariants.{Exclusive}
 use Rattle.cl_types.specs.declared.operations.TxnId.{TxnId}
 use Rattle.cl_types.specs.Decimal.{number, is_signed_64}
+use Rattle.cl_types.specs.Modes.{is_conflict}
 use Rattle.cl_types.specs.Places.{Place, Stored}
 use Rattle.cl_types.specs.Transactions.{same_txn}
 use Rattle.cl_log.specs.declared.records.LogRec.TheVariants.{Add}
 use Rattle.cl_log.specs.LogEntry.{LogEntry, IsNumberedFrom, EachAfter, BeginsWith}
 use Rattle.cl_log.specs.Kind.{txn_of, is_end, is_mark, can_be_undone, writes, number_before}
 use Rattle.cl_log.specs.Lawful.{UndoesInOrder, IsLawfulLog, LosesEndsOfMembers}
-use Rattle.cl_log.specs.Locks.{takes_lock, locks_after, locks_of_log, HasNoConflict}
+use Rattle.cl_log.specs.Locks.{mode_at, takes_lock, locks_after, locks_of_log, HasNoConflict}
 use Rattle.cl_log.specs.Open.{has_ended, is_open, is_among, is_under_way, stage_of, chain_of, low_of, unended_of}
 use Rattle.cl_log.specs.Rest.{is_undone, times_undone, rest_to_undo, undo_of}
 use Rattle.cl_log.specs.Settled.{settled, IsReversible}
@@ -134,3 +135,8 @@ LawfulLogsHaveNoConflict = (history : List TxnId) (front rest : List LogEntry) �
 abbrev pub BeginningsKeepSettled : Type 0
 BeginningsKeepSettled = (entries front lost : List LogEntry) (n : ℕ) (history : List TxnId) → IsNumberedFrom n entries → IsLawfulLog history entries →
     entries ≡ front ++ lost → LosesEndsOfMembers history lost → (place : Place) → settled front history place ≡ settled entries history place
+
+-- a record after which no locks conflict found its lock free
+abbrev pub FoundFree : Type 0
+FoundFree = (entries : List LogEntry) (entry : LogEntry) → HasNoConflict (entries ++ entry ∷ []) → (takes_lock entry.content ≡ true → has_ended entries (txn_of entry.content) ≡ false) →
+    (other : TxnId) (place : Place) → is_conflict (mode_at place entry.content) (locks_of_log entries other place) ≡ true → other ≡ txn_of entry.content

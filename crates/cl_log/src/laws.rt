@@ -1,5 +1,5 @@
 //! What holds of every log. Each function does nothing: its contract is a law of the definitions.
-ghost use Rattle.cl_log.specs.Laws.{StoreFollowsRecords, RedoLeavesLater, RedoMeetsGuard, LocksFollowRecords, UndoTakesFirst, UndoKeepsSettled, WritesUndoneOnce, RecordsKeepSettled, HistorySettlesLocks, UnendedAreOpen, UnendedByFirstNumber, OpenByStage, LowIsLeastOpen, CutKeepsLocks, FreePlacesAreSettled, AdditionsAreReversible, NextIsNotUndone, LawfulLogsHaveNoConflict, BeginningsKeepSettled};
+ghost use Rattle.cl_log.specs.Laws.{StoreFollowsRecords, RedoLeavesLater, RedoMeetsGuard, LocksFollowRecords, UndoTakesFirst, UndoKeepsSettled, WritesUndoneOnce, RecordsKeepSettled, HistorySettlesLocks, UnendedAreOpen, UnendedByFirstNumber, OpenByStage, LowIsLeastOpen, CutKeepsLocks, FreePlacesAreSettled, AdditionsAreReversible, NextIsNotUndone, LawfulLogsHaveNoConflict, BeginningsKeepSettled, FoundFree};
 ghost use Rattle.std.specs.Prelude.{◌≡◌, ◌+◌, ◌≤◌, length};
 ghost use Rattle.cl_log.specs.LogEntry.{IsNumberedFrom};
 ghost use Rattle.cl_log.specs.Log.{entries, first_kept, next_number};
@@ -107,9 +107,11 @@ pub fn next_is_not_undone()
     ensures { NextIsNotUndone }
 {}
 
-/// No beginning of a lawful log has two locks in conflict.
+/// No beginning of a lawful log has two locks in conflict. And a record after which no locks
+/// conflict found its lock free.
 pub fn lawful_logs_have_no_conflict()
-    ensures { LawfulLogsHaveNoConflict }
+    ensures beginnings { LawfulLogsHaveNoConflict }
+    ensures free { FoundFree }
 {}
 
 /// A beginning of a lawful log settles as the log does, where it has all records of members of the

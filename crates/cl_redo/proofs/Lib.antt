@@ -2,4 +2,5 @@ pub mod Follows
 pub mod Guards
 pub mod InTurn
 pub mod Meets
+pub mod NoConflict
 pub mod Skips

@@ -4,8 +4,10 @@ use Rattle.cl_types.specs.declared.operations.Mode.{Mode}
 use Rattle.cl_types.specs.declared.operations.TxnId.{TxnId}
 use Rattle.cl_types.specs.Places.{Place, Stored}
 use Rattle.cl_log.specs.LogEntry.{LogEntry, IsNumberedFrom, EachAfter, BeginsWith}
-use Rattle.cl_log.specs.Locks.{locks_after}
+use Rattle.cl_log.specs.Locks.{locks_after, HasNoConflict}
 use Rattle.cl_log.specs.Store.{redo_by_guard, later, store_of_log, IsConsistentLog, IsCopyAfter}
+use Rattle.cl_locks.specs.declared.locks.Locks.{Locks}
+use Rattle.cl_locks.specs.Table.{held}
 use Rattle.cl_redo.specs.Condition.{MeetsWrite, IsUnended}
 use Rattle.cl_redo.specs.Redo.{IsStoreOf, AreLocksOf}
 
@@ -44,3 +46,7 @@ abbrev pub TakingOnCopyMeetsWrites : Type 0
 TakingOnCopyMeetsWrites = (log first records : List LogEntry) (entry : LogEntry) (rest : List LogEntry) (copy stored : Place → Stored) (held_first held : TxnId → Place → Option Mode) →
     IsNumberedFrom 1 log → IsConsistentLog log → log ≡ first ++ records ++ entry ∷ rest → IsCopyAfter log first copy →
     TakesInTurn records copy held_first stored held → MeetsWrite stored entry
+
+-- a log whose locks a table holds has no conflict
+abbrev pub TablesHaveNoConflict : Type 0
+TablesHaveNoConflict = (locks : Locks) (log : List LogEntry) → AreLocksOf (held locks) log → HasNoConflict log

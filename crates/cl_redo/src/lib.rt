@@ -6,6 +6,6 @@ mod redone;
 mod taking;
 mod write;
 
-pub use laws::{taking_gives_store_and_locks, taking_on_a_copy};
+pub use laws::{tables_have_no_conflict, taking_gives_store_and_locks, taking_on_a_copy};
 pub use redone::Redone;
 pub use taking::{reserve, take};
