@@ -11,10 +11,10 @@ use Rattle.cl_log.proofs.Beginnings.{settled-beginning}
 use Rattle.cl_log.proofs.Settled.{settled-nil, settled_at-free}
 use Rattle.cl_serial.specs.PlainMap.{Operation, no_values, RepliesAgree}
 use Rattle.cl_order.specs.Ledger.{Ledger, log_at, lock_at, values_of, IsOrdered}
-use Rattle.cl_order.specs.Laws.{KeepsOrder, OperationsKeepOrder, PreparedKeepsOrder, DecideKeepsOrder, JoiningKeepsOrder, UndoKeepsOrder, EndKeepsOrder, CutKeepsOrder, StepsMakeOrder, WholeReplays, WholeOnEach, WholeWithoutOperations, MembersHoldLocks, StoreIsMap, BeginningsSettleAlike}
+use Rattle.cl_order.specs.Laws.{KeepsOrder, OperationsKeepOrder, PreparedKeepsOrder, DecideKeepsOrder, JoiningKeepsOrder, UndoKeepsOrder, EndKeepsOrder, CutKeepsOrder, StepsMakeOrder, WholeReplays, WholeOnEach, WholeWithoutOperations, MembersHoldLocks, HoldersAsked, StoreIsMap, BeginningsSettleAlike}
 use Rattle.cl_order.specs.Operations.{mode_of, is_held}
 use Rattle.cl_order.specs.Steps.{Step, carry_out, prepare, decide, join, undo, finish, cut, after_step, after_steps, AreEnabled, new_ledger}
-use Rattle.cl_order.proofs.Ledgers.{ordered_on, whole_from, whole_without, whole_everywhere, locked_where_strongest}
+use Rattle.cl_order.proofs.Ledgers.{asked_where_locked, ordered_on, whole_from, whole_without, whole_everywhere, locked_where_strongest}
 use Rattle.cl_order.proofs.OneWhole.{IsWholeAt}
 use Rattle.cl_order.proofs.Replays.{agree_from_each}
 use Rattle.cl_order.proofs.StepLemmas.{prepare_ordered, prepare_whole, decide_ordered, decide_whole, finish_ordered, finish_whole, undo_ordered, undo_whole, cut_ordered, cut_whole, join_ordered, join_whole, operation_ordered, operation_whole}
@@ -131,3 +131,6 @@ pub beginnings_settle_alike : BeginningsSettleAlike
 beginnings_settle_alike ledger v front ordered may place here =
     settled-beginning ledger.history (ledger.logs v) front may.lost 1 (ordered.numbered v) (ordered.lawful v) may.whole may.ends place
     ∙ (ordered_on ledger ordered v).settles place here
+
+pub holders_asked : HoldersAsked
+holders_asked ledger txn place mode ordered holds = asked_where_locked ledger.done txn place (log_at ledger place) (ordered.for_operations (ledger.on place)) mode holds

@@ -20,7 +20,7 @@ use Rattle.cl_log.specs.Store.{value_after, store_of_log, CarriesNumberBefore}
 use Rattle.cl_log.proofs.Places.{IsAt, writes-at, mode_at-elsewhere}
 use Rattle.cl_log.proofs.Rest.{first_of_rest_is}
 use Rattle.cl_serial.specs.PlainMap.{Operation}
-use Rattle.cl_order.specs.Ledger.{has_operation_at, LocksForOperation}
+use Rattle.cl_order.specs.Ledger.{asks_at, LocksForOperation}
 use Rattle.cl_order.specs.Operations.{mode_of, is_held}
 use Rattle.cl_order.proofs.Held.{conflict_with_held}
 use Rattle.cl_order.proofs.Records.{Fits}
@@ -141,11 +141,15 @@ lawful_operation history seen number content txn place op apart running free fit
 
 -- it locks where its transaction has the operation
 pub locks_for_operation : (done : TxnId → List Operation) (number : ℕ) (content : LogRec) (txn : TxnId) (place : Place) (op : Op) (before : ℕ) (value : Option (List ℕ)) → Fits txn place op before value content →
-    has_operation_at (done txn) place ≡ true → LocksForOperation done (record { number = number; content = content })
+    asks_at (done txn) place (mode_of op) ≡ true → LocksForOperation done (record { number = number; content = content })
 locks_for_operation done number content txn place op before value fits has p mode locks =
     by_place (same_place place p) refl
   where
-    by_place : (b : Bool) → same_place place p ≡ b → has_operation_at (done (txn_of content)) p ≡ true
-    by_place true t = ap (λ t. has_operation_at (done t) p) fits.own ∙ ap (has_operation_at (done txn)) (sym (same_place-true place p t)) ∙ has
+    by_place : (b : Bool) → same_place place p ≡ b → asks_at (done (txn_of content)) p mode ≡ true
+    by_place true t =
+        let here = same_place-true place p t in
+        let asked : ◌≡◌ {A = Option Mode} (Some (mode_of op)) (Some mode) = sym fits.locks ∙ ap (λ (q : Place). mode_at q content) here ∙ locks in
+        let same : mode_of op ≡ mode = cc in
+        ap (λ t. asks_at (done t) p mode) fits.own ∙ ap (λ (q : Place). asks_at (done txn) q mode) (sym here) ∙ ap (asks_at (done txn) place) (sym same) ∙ has
     by_place false f =
         absurd (let e : ◌≡◌ {A = Option Mode} None (Some mode) = sym (locks_elsewhere content place p fits.there (λ e. both_ways _ f (ap (same_place place) (sym e) ∙ same_place-itself place))) ∙ locks in cc)

@@ -1,11 +1,11 @@
 -- A ledger, seen by virtual nodes and by places.
-use Rattle.std.proofs.Common.{◌≡◌, ◌≢◌, ℕ, Bool, true, false, eqb, List, [], ◌∷◌, ◌++◌, Option, Some, None, refl, sym, ap, ◌∙◌, subst, inl, inr}
+use Rattle.std.proofs.Common.{◌≡◌, ◌&&◌, ◌≢◌, ℕ, Bool, true, false, eqb, List, [], ◌∷◌, ◌++◌, Option, Some, None, refl, sym, ap, ◌∙◌, subst, inl, inr}
 use Rattle.std.specs.Prelude.{slice_index_or}
 use Rattle.std.specs.List.{IsDistinct, All, fold}
-use Rattle.std.proofs.lemmas.Bool.{cond-true, cond-false, cases_Bool, both_ways, eqb-true, or_parts, or_cases, false≢true, true_from_ne_false, and_from, not_from_false}
+use Rattle.std.proofs.lemmas.Bool.{and_parts, or_left, or_right, cond-true, cond-false, cases_Bool, both_ways, eqb-true, or_parts, or_cases, false≢true, true_from_ne_false, and_from, not_from_false}
 use Rattle.std.proofs.lemmas.List.Elements.{All-weaker, All-head, All-tail, All-nil, All-cons}
 use Rattle.cl_types.specs.declared.operations.Mode.{Mode}
-use Rattle.cl_types.specs.declared.operations.Mode.TheVariants.{Exclusive}
+use Rattle.cl_types.specs.declared.operations.Mode.TheVariants.{Shared, Exclusive}
 use Rattle.cl_types.specs.declared.operations.TxnId.{TxnId}
 use Rattle.cl_types.specs.Modes.{stronger}
 use Rattle.cl_types.specs.Places.{Place, same_place}
@@ -20,7 +20,7 @@ use Rattle.cl_log.specs.Open.{has_ended, is_open}
 use Rattle.cl_log.specs.Settled.{settled}
 use Rattle.cl_log.proofs.Locks.{strongest_mode-unbegun}
 use Rattle.cl_serial.specs.PlainMap.{Operation, no_values, RepliesAgree}
-use Rattle.cl_order.specs.Ledger.{Ledger, log_at, member_operations, values_of, has_operation_at, LocksForOperation, IsOrdered, IsWholeOn, IsWhole}
+use Rattle.cl_order.specs.Ledger.{Ledger, log_at, member_operations, values_of, has_operation_at, asks_at, LocksForOperation, IsOrdered, IsWholeOn, IsWhole}
 use Rattle.cl_order.specs.Operations.{mode_of, is_held}
 use Rattle.cl_order.specs.Steps.{logs_with, with_log}
 use Rattle.cl_order.proofs.Held.{held_none}
@@ -73,6 +73,14 @@ whole_from ledger txn v each = record {
 
 -- ---- a transaction without an operation at a place
 
+has_where_asked : (list : List Operation) (place : Place) (mode : Mode) → asks_at list place mode ≡ true → has_operation_at list place ≡ true
+has_where_asked [] place mode h = h
+has_where_asked (x ∷ xs) place mode h =
+    elim (or_cases (same_place x.place place && is_held (Some (mode_of x.op)) mode) _ h) [
+      | inl here ↦ or_left (same_place x.place place) _ (and_parts (same_place x.place place) _ here).0
+      | inr later ↦ or_right (same_place x.place place) _ (has_where_asked xs place mode later)
+    ]
+
 -- its records lock nothing there
 unlocked_fold : (done : TxnId → List Operation) (txn : TxnId) (place : Place) (seen xs : List LogEntry) → has_operation_at (done txn) place ≡ false → EachAfter (λ _ e. LocksForOperation done e) seen xs →
     fold (mode_after txn place) None xs ≡ None
@@ -83,7 +91,7 @@ unlocked_fold done txn place seen (x ∷ xs) none h =
     by_mode : is_of txn x.content ≡ true → (m : Option Mode) → mode_at place x.content ≡ m → mode_at place x.content ≡ None
     by_mode own None e = e
     by_mode own (Some mode) e =
-        absurd (both_ways _ none (ap (λ t. has_operation_at (done t) place) (sym (same_txn-true (txn_of x.content) txn own)) ∙ h.0 place mode e))
+        absurd (both_ways _ none (ap (λ t. has_operation_at (done t) place) (sym (same_txn-true (txn_of x.content) txn own)) ∙ has_where_asked (done (txn_of x.content)) place mode (h.0 place mode e)))
 
     by_owner : (b : Bool) → is_of txn x.content ≡ b → mode_after txn place None x ≡ None
     by_owner true t = cond-true _ _ _ t ∙ ap (stronger None) (by_mode t (mode_at place x.content) refl) ∙ stronger-none None
@@ -96,6 +104,35 @@ unlocked_without done txn place log none h =
     elim (cases_Bool (is_open log txn)) [
       | inl t ↦ cond-true _ _ _ t ∙ unlocked_fold done txn place [] log none h
       | inr f ↦ cond-false _ _ _ f
+    ]
+
+-- its lock is what one of its records asked for
+asked_stronger : (done : List Operation) (place : Place) (a b : Option Mode) → ((mode : Mode) → a ≡ Some mode → asks_at done place mode ≡ true) → ((mode : Mode) → b ≡ Some mode → asks_at done place mode ≡ true) →
+    (mode : Mode) → stronger a b ≡ Some mode → asks_at done place mode ≡ true
+asked_stronger done place None b asked_a asked_b mode e = asked_b mode e
+asked_stronger done place (Some Exclusive) b asked_a asked_b mode e = asked_a mode e
+asked_stronger done place (Some Shared) None asked_a asked_b mode e = asked_a mode e
+asked_stronger done place (Some Shared) (Some other) asked_a asked_b mode e = asked_b mode e
+
+asked_fold : (done : TxnId → List Operation) (txn : TxnId) (place : Place) (held : Option Mode) (seen xs : List LogEntry) → EachAfter (λ _ e. LocksForOperation done e) seen xs →
+    ((mode : Mode) → held ≡ Some mode → asks_at (done txn) place mode ≡ true) → (mode : Mode) → fold (mode_after txn place) held xs ≡ Some mode → asks_at (done txn) place mode ≡ true
+asked_fold done txn place held seen [] h asked mode e = asked mode e
+asked_fold done txn place held seen (x ∷ xs) h asked mode e =
+    asked_fold done txn place (mode_after txn place held x) (seen ++ x ∷ []) xs h.1 (by_owner (is_of txn x.content) refl) mode e
+  where
+    by_owner : (b : Bool) → is_of txn x.content ≡ b → (mode : Mode) → mode_after txn place held x ≡ Some mode → asks_at (done txn) place mode ≡ true
+    by_owner true t mode q =
+        asked_stronger (done txn) place held (mode_at place x.content) asked
+        (λ m k. ap (λ t. asks_at (done t) place m) (sym (same_txn-true (txn_of x.content) txn t)) ∙ h.0 place m k) mode (sym (cond-true _ _ _ t) ∙ q)
+    by_owner false f mode q = asked mode (sym (cond-false _ _ _ f) ∙ q)
+
+pub asked_where_locked : (done : TxnId → List Operation) (txn : TxnId) (place : Place) (log : List LogEntry) → EachAfter (λ _ e. LocksForOperation done e) [] log →
+    (mode : Mode) → locks_of_log log txn place ≡ Some mode → asks_at (done txn) place mode ≡ true
+unfolding locks_of_log strongest_mode
+asked_where_locked done txn place log h mode e =
+    elim (cases_Bool (is_open log txn)) [
+      | inl t ↦ asked_fold done txn place None [] log h (λ m q. absurd (let r : ◌≡◌ {A = Option Mode} None (Some m) = q in cc)) mode (sym (cond-true _ _ _ t) ∙ e)
+      | inr f ↦ absurd (let r : ◌≡◌ {A = Option Mode} None (Some mode) = sym (cond-false _ _ _ f) ∙ e in cc)
     ]
 
 -- none of its operations is there

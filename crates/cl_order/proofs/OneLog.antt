@@ -1,7 +1,7 @@
 -- The part of one log in the serial order, step by step.
-use Rattle.std.proofs.Common.{◌≡◌, ℕ, ◌+◌, true, false, ◌||◌, List, [], ◌∷◌, ◌++◌, length, Option, None, refl, sym, ap, ◌∙◌, subst, inl, inr, arith}
+use Rattle.std.proofs.Common.{◌≡◌, ℕ, ◌+◌, true, ◌||◌, List, [], ◌∷◌, ◌++◌, length, Option, None, refl, sym, ap, ◌∙◌, subst, inl, inr, arith}
 use Rattle.std.specs.List.{All, fold}
-use Rattle.std.proofs.lemmas.Bool.{cond-true, cond-false, cases_Bool, or_left, or_cases, false≢true}
+use Rattle.std.proofs.lemmas.Bool.{cond-true, cond-false, cases_Bool, or_left, or_cases}
 use Rattle.std.proofs.lemmas.List.Elements.{All-weaker}
 use Rattle.std.proofs.lemmas.List.Folds.{list_any-append}
 use Rattle.cl_types.specs.declared.operations.Mode.{Mode}
@@ -12,15 +12,14 @@ use Rattle.cl_types.specs.Places.{Place}
 use Rattle.cl_types.specs.Transactions.{same_txn}
 use Rattle.cl_types.proofs.Transactions.{same_txn-true}
 use Rattle.cl_log.specs.declared.records.LogRec.{LogRec}
-use Rattle.cl_log.specs.declared.records.LogRec.TheVariants.{End}
 use Rattle.cl_log.specs.LogEntry.{LogEntry, IsNumberedFrom, EachAfter}
 use Rattle.cl_log.specs.Kind.{txn_of, is_of, is_end, is_mark}
 use Rattle.cl_log.specs.Lawful.{IsLawful, IsLawfulLog, LosesEndsOfMembers}
-use Rattle.cl_log.specs.Locks.{mode_at, mode_after, strongest_mode, takes_lock, HasNoConflict}
+use Rattle.cl_log.specs.Locks.{mode_at, mode_after, strongest_mode, HasNoConflict}
 use Rattle.cl_log.specs.Open.{is_among}
 use Rattle.cl_log.specs.Settled.{settled}
 use Rattle.cl_log.proofs.Beginnings.{settled_after_lawful, settled-beginning}
-use Rattle.cl_log.proofs.Conflicts.{HasNoConflict-lawful}
+use Rattle.cl_log.proofs.Conflicts.{HasNoConflict-lawful, end_takes_none}
 use Rattle.cl_log.proofs.Cut.{strongest_mode-append}
 use Rattle.cl_log.proofs.Entries.{append-IsNumberedFrom, IsNumberedFrom-append, EachAfter_push, EachAfter-append, EachAfter-weaker}
 use Rattle.cl_log.proofs.Locks.{mode_at-none, strongest_mode_push}
@@ -29,10 +28,6 @@ use Rattle.cl_serial.specs.PlainMap.{Values, Operation}
 use Rattle.cl_order.specs.Ledger.{LocksForOperation}
 use Rattle.cl_order.specs.Operations.{mode_of, is_held}
 use Rattle.cl_order.proofs.Held.{is_held-stronger}
-
-end_takes_none : (content : LogRec) → is_end content ≡ true → takes_lock content ≡ false
-end_takes_none (End txn commit) h = refl
-end_takes_none content h = absurd (false≢true h)
 
 -- what an operation of a member needs of the log
 abbrev pub HasLock : (Place → ℕ) → ℕ → List LogEntry → TxnId → Operation → Type 0

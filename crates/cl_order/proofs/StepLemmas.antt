@@ -1,8 +1,8 @@
 -- Each step keeps a ledger ordered, and leaves the transactions whole that it does not concern.
-use Rattle.std.proofs.Common.{◌≡◌, ◌≢◌, ℕ, ◌+◌, Bool, true, false, eqb, List, [], ◌∷◌, ◌++◌, length, Option, Some, None, refl, sym, ap, ◌∙◌, subst, inl, inr}
+use Rattle.std.proofs.Common.{◌≡◌, ◌&&◌, ◌≢◌, ℕ, ◌+◌, Bool, true, false, eqb, List, [], ◌∷◌, ◌++◌, length, Option, Some, None, refl, sym, ap, ◌∙◌, subst, inl, inr}
 use Rattle.std.specs.Prelude.{slice_index_or}
 use Rattle.std.specs.List.{All, flat_map}
-use Rattle.std.proofs.lemmas.Bool.{cond-true, cond-false, cases_Bool, both_ways, eq-eqb, or_parts, or_left, or_right, false≢true, false_from_ne_true}
+use Rattle.std.proofs.lemmas.Bool.{and_from, cond-true, cond-false, cases_Bool, both_ways, eq-eqb, or_parts, or_left, or_right, false≢true, false_from_ne_true}
 use Rattle.std.proofs.lemmas.List.{append-nil}
 use Rattle.std.proofs.lemmas.List.Concat.{flat_map-append}
 use Rattle.std.proofs.lemmas.List.Folds.{list_any-append}
@@ -30,7 +30,7 @@ use Rattle.cl_log.proofs.Settled.{settled_at-member, settled_with-elsewhere}
 use Rattle.cl_log.proofs.Unended.{same_txn_equivalence}
 use Rattle.cl_serial.specs.PlainMap.{Values, Operation, no_values, after_operation, after_operations, RepliesAgree}
 use Rattle.cl_serial.proofs.Replayed.{RepliesAgree-append}
-use Rattle.cl_order.specs.Ledger.{Ledger, log_at, stored_at, lock_at, member_operations, values_of, has_operation_at, LocksForOperation, IsOrdered, IsWholeOn}
+use Rattle.cl_order.specs.Ledger.{Ledger, log_at, stored_at, lock_at, member_operations, values_of, asks_at, LocksForOperation, IsOrdered, IsWholeOn}
 use Rattle.cl_order.specs.Operations.{mode_of, is_held}
 use Rattle.cl_order.specs.Steps.{log_with, log_with_optional, logs_with, done_with, operation_now, record_now, with_log, with_operation, with_member, MayCarryOut, MayJoin, MayUndo, MayFinish, MayCut}
 use Rattle.cl_order.proofs.Held.{is_held-itself, conflict_with_exclusive}
@@ -268,23 +268,23 @@ module _ (ledger : Ledger) (ordered : IsOrdered ledger) (txn : TxnId) (place : P
   unfolding after
   values_same = ap (after_operations no_values) operations_same
 
-  has_more : (t : TxnId) (p : Place) → has_operation_at (ledger.done t) p ≡ true → has_operation_at (more t) p ≡ true
-  has_more t p has =
+  has_more : (t : TxnId) (p : Place) (mode : Mode) → asks_at (ledger.done t) p mode ≡ true → asks_at (more t) p mode ≡ true
+  has_more t p mode has =
       elim (cases_Bool (same_txn t txn)) [
         | inl same ↦
             let is = same_txn-true t txn same in
-            ap (λ w. has_operation_at (more w) p) is
-            ∙ ap (λ list. has_operation_at list p) more_own
-            ∙ list_any-append (λ (o : Operation). same_place o.place p) (ledger.done txn) (operation_now ledger place op ∷ [])
-            ∙ or_left _ _ (ap (λ w. has_operation_at (ledger.done w) p) (sym is) ∙ has)
-        | inr apart ↦ ap (λ list. has_operation_at list p) (more_other t apart) ∙ has
+            ap (λ w. asks_at (more w) p mode) is
+            ∙ ap (λ list. asks_at list p mode) more_own
+            ∙ list_any-append (λ (o : Operation). same_place o.place p && is_held (Some (mode_of o.op)) mode) (ledger.done txn) (operation_now ledger place op ∷ [])
+            ∙ or_left _ _ (ap (λ w. asks_at (ledger.done w) p mode) (sym is) ∙ has)
+        | inr apart ↦ ap (λ list. asks_at list p mode) (more_other t apart) ∙ has
       ]
 
-  has_own : has_operation_at (more txn) place ≡ true
+  has_own : asks_at (more txn) place (mode_of op) ≡ true
   has_own =
-      ap (λ list. has_operation_at list place) more_own
-      ∙ list_any-append (λ (o : Operation). same_place o.place place) (ledger.done txn) (operation_now ledger place op ∷ [])
-      ∙ or_right _ _ (or_left _ _ (same_place-itself place))
+      ap (λ list. asks_at list place (mode_of op)) more_own
+      ∙ list_any-append (λ (o : Operation). same_place o.place place && is_held (Some (mode_of o.op)) (mode_of op)) (ledger.done txn) (operation_now ledger place op ∷ [])
+      ∙ or_right _ _ (or_left _ _ (and_from _ _ (same_place-itself place) (is_held-itself (mode_of op))))
 
   Fit : Option LogRec → Type 0
   Fit = Fitting txn place op (stored_at ledger place).0 (stored_at ledger place).1 (lock_at ledger txn place)
@@ -302,7 +302,7 @@ module _ (ledger : Ledger) (ordered : IsOrdered ledger) (txn : TxnId) (place : P
   with_more : (v : ℕ) → IsOrderedOn ledger.on ledger.history more (values_of ledger) v (ledger.logs v)
   with_more v =
       ordered_with_done ledger.on ledger.history ledger.done (values_of ledger) v (ledger.logs v) (ordered_on ledger ordered v) more more_of_member
-      (λ entry for_operation p mode locks. has_more (txn_of entry.content) p (for_operation p mode locks))
+      (λ entry for_operation p mode locks. has_more (txn_of entry.content) p mode (for_operation p mode locks))
 
   log_after : (r : Option LogRec) → Fit r → IsOrderedOn ledger.on ledger.history more (values_of ledger) (ledger.on place) (log_with_optional (log_at ledger place) r)
   unfolding Fit

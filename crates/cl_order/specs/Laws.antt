@@ -1,5 +1,6 @@
 -- What holds of ledgers.
 use Rattle.std.specs.Prelude.{◌≡◌, ◌↔◌, ℕ, Bool, true, false, List, Some, All}
+use Rattle.cl_types.specs.declared.operations.Mode.{Mode}
 use Rattle.cl_types.specs.declared.operations.Mode.TheVariants.{Exclusive}
 use Rattle.cl_types.specs.declared.operations.Op.{Op}
 use Rattle.cl_types.specs.declared.operations.TxnId.{TxnId}
@@ -10,7 +11,7 @@ use Rattle.cl_log.specs.Open.{has_ended, is_among}
 use Rattle.cl_log.specs.Settled.{settled}
 use Rattle.cl_serial.specs.PlainMap.{RepliesAgree}
 use Rattle.cl_order.specs.Operations.{mode_of, is_held}
-use Rattle.cl_order.specs.Ledger.{Ledger, log_at, stored_at, lock_at, values_of, has_operation_at, IsOrdered, IsWholeOn, IsWhole}
+use Rattle.cl_order.specs.Ledger.{Ledger, log_at, stored_at, lock_at, values_of, has_operation_at, asks_at, IsOrdered, IsWholeOn, IsWhole}
 use Rattle.cl_order.specs.Steps.{Step, carry_out, prepare, decide, join, undo, finish, cut, after_step, IsEnabled, MayCut, IsSpared, after_steps, AreEnabled, new_ledger}
 
 -- after a step the ledger is ordered, and who is spared stays whole
@@ -64,6 +65,10 @@ WholeWithoutOperations = (ledger : Ledger) (txn : TxnId) (v : ℕ) → IsOrdered
 abbrev pub MembersHoldLocks : Type 0
 MembersHoldLocks = (ledger : Ledger) (txn : TxnId) → IsOrdered ledger → is_among txn ledger.history ≡ true →
     All (λ operation. has_ended (log_at ledger operation.place) txn ≡ false → is_held (lock_at ledger txn operation.place) (mode_of operation.op) ≡ true) (ledger.done txn)
+
+-- whoever holds a lock has an operation there that asks for it
+abbrev pub HoldersAsked : Type 0
+HoldersAsked = (ledger : Ledger) (txn : TxnId) (place : Place) (mode : Mode) → IsOrdered ledger → lock_at ledger txn place ≡ Some mode → asks_at (ledger.done txn) place mode ≡ true
 
 -- where only members hold an exclusive lock the store is the map
 abbrev pub StoreIsMap : Type 0

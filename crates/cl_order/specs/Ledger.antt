@@ -1,5 +1,5 @@
 -- A ledger: the log of each virtual node, the history, and the operations of each transaction; and what keeps them in one serial order.
-use Rattle.std.specs.Prelude.{◌≡◌, ℕ, Bool, true, ◌==◌, List, [], Option, Some, All, filter}
+use Rattle.std.specs.Prelude.{◌≡◌, ℕ, Bool, true, ◌&&◌, ◌==◌, List, [], Option, Some, All, filter}
 use Rattle.std.specs.List.{IsDistinct, list_any, flat_map}
 use Rattle.cl_types.specs.declared.operations.Mode.{Mode}
 use Rattle.cl_types.specs.declared.operations.Mode.TheVariants.{Exclusive}
@@ -50,9 +50,13 @@ values_of ledger = after_operations no_values (member_operations ledger)
 abbrev pub has_operation_at : List Operation → Place → Bool
 has_operation_at list place = list_any (λ operation. same_place operation.place place) list
 
--- a record that locks a place belongs to an operation of its transaction there
+-- and locks it as strongly as the mode
+abbrev pub asks_at : List Operation → Place → Mode → Bool
+asks_at list place mode = list_any (λ operation. same_place operation.place place && is_held (Some (mode_of operation.op)) mode) list
+
+-- a record that locks a place belongs to an operation of its transaction that asks for it
 abbrev pub LocksForOperation : (TxnId → List Operation) → LogEntry → Type 0
-LocksForOperation done entry = (place : Place) (mode : Mode) → mode_at place entry.content ≡ Some mode → has_operation_at (done (txn_of entry.content)) place ≡ true
+LocksForOperation done entry = (place : Place) (mode : Mode) → mode_at place entry.content ≡ Some mode → asks_at (done (txn_of entry.content)) place mode ≡ true
 
 -- locks over logs keep one serial order
 pub record IsOrdered (ledger : Ledger) : Type 0 where
@@ -60,7 +64,7 @@ pub record IsOrdered (ledger : Ledger) : Type 0 where
   pub numbered : (v : ℕ) → IsNumberedFrom 1 (ledger.logs v)
   -- each of its records is lawful after those before it
   pub lawful : (v : ℕ) → IsLawfulLog ledger.history (ledger.logs v)
-  -- and locks only where its transaction has an operation
+  -- and locks only what an operation of its transaction asks for
   pub for_operations : (v : ℕ) → EachAfter (λ _ entry. LocksForOperation ledger.done entry) [] (ledger.logs v)
   -- each place settles to the map of the history
   pub settles : (place : Place) → settled (log_at ledger place) ledger.history place ≡ values_of ledger place

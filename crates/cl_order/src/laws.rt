@@ -1,5 +1,5 @@
 //! What holds of ledgers. Each function does nothing: its contract is a law of the definitions.
-ghost use Rattle.cl_order.specs.Laws.{OperationsKeepOrder, PreparedKeepsOrder, DecideKeepsOrder, JoiningKeepsOrder, UndoKeepsOrder, EndKeepsOrder, CutKeepsOrder, StepsMakeOrder, WholeReplays, WholeOnEach, WholeWithoutOperations, MembersHoldLocks, StoreIsMap, BeginningsSettleAlike};
+ghost use Rattle.cl_order.specs.Laws.{OperationsKeepOrder, PreparedKeepsOrder, DecideKeepsOrder, JoiningKeepsOrder, UndoKeepsOrder, EndKeepsOrder, CutKeepsOrder, StepsMakeOrder, WholeReplays, WholeOnEach, WholeWithoutOperations, MembersHoldLocks, HoldersAsked, StoreIsMap, BeginningsSettleAlike};
 
 /// An operation that is carried out under a lock that was held or free keeps a ledger ordered.
 /// Its transaction stays whole, and so does each other.
@@ -48,9 +48,11 @@ pub fn whole_transactions_replay()
     ensures elsewhere { WholeWithoutOperations }
 {}
 
-/// A member of the history holds the lock of each of its operations until its End.
+/// A member of the history holds the lock of each of its operations until its End. Whoever holds a
+/// lock has an operation there that asks for it.
 pub fn members_hold_locks()
-    ensures { MembersHoldLocks }
+    ensures members { MembersHoldLocks }
+    ensures holders { HoldersAsked }
 {}
 
 /// At a place that no transaction outside the history has locked exclusively, the store has what
