@@ -104,3 +104,25 @@ two_logs_settle = ((refl, refl, refl), (refl, refl, refl), (refl, refl, refl), (
 pub third_wrote : (stored_at on_one a).1 ≡ Some (codes "z")
 unfolding store_of_log has_begun has_ended locks_of_log strongest_mode
 third_wrote = refl
+
+-- ---- what is lost without what a step needs: the place settles to one value, and the map has another
+
+abbrev pub Differs : Ledger → Place → Option (List ℕ) → Option (List ℕ) → Type 0
+Differs ledger place value other = (settled (log_at ledger place) ledger.history place ≡ value) × (values_of ledger place ≡ other)
+
+-- a transaction joins, of which a write was undone
+pub joins_undone : Differs (after_steps (new_ledger one_log) (reads_and_undoes one_log 1 ++ join second_txn ∷ [])) b None (Some (codes "y"))
+unfolding settled unsettled store_of_log is_undone has_begun has_ended locks_of_log strongest_mode
+joins_undone = (refl, refl)
+
+-- a member's write is lost
+pub loses_write : Differs (after_steps (new_ledger one_log) (commits one_log ++ cut 0 [] ∷ [])) a None (Some (codes "x"))
+unfolding settled unsettled store_of_log is_undone has_begun has_ended locks_of_log strongest_mode
+loses_write = (refl, refl)
+
+-- a transaction writes where another has an exclusive lock, and the other's write is undone
+pub writes_where_locked : Differs (after_steps (new_ledger one_log)
+    (carry_out first_txn a (Put (codes "x")) ∷ carry_out second_txn a (Put (codes "y"))
+    ∷ undo 0 (Comp first_txn (codes "t") (codes "a") 2 1 (Image None)) ∷ join second_txn ∷ [])) a None (Some (codes "y"))
+unfolding settled unsettled store_of_log is_undone has_begun has_ended locks_of_log strongest_mode
+writes_where_locked = (refl, refl)

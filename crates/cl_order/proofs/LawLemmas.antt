@@ -1,7 +1,8 @@
 -- The laws of ledgers.
-use Rattle.std.proofs.Common.{◌≡◌, ℕ, Bool, true, false, subst, List, [], ◌∷◌, sym, ◌∙◌}
+use Rattle.std.proofs.Common.{◌≡◌, ℕ, Bool, true, false, subst, List, [], ◌∷◌, ◌++◌, sym, ◌∙◌}
 use Rattle.std.specs.List.{IsDistinct}
 use Rattle.std.specs.Prelude.{slice_index_or}
+use Rattle.std.proofs.lemmas.List.Sums.{fold-append}
 use Rattle.std.proofs.lemmas.List.Elements.{All-weaker}
 use Rattle.cl_types.specs.Places.{Place}
 use Rattle.cl_types.specs.Transactions.{same_txn}
@@ -11,7 +12,7 @@ use Rattle.cl_log.proofs.Beginnings.{settled-beginning}
 use Rattle.cl_log.proofs.Settled.{settled-nil, settled_at-free}
 use Rattle.cl_serial.specs.PlainMap.{Operation, no_values, RepliesAgree}
 use Rattle.cl_order.specs.Ledger.{Ledger, log_at, lock_at, values_of, IsOrdered}
-use Rattle.cl_order.specs.Laws.{KeepsOrder, OperationsKeepOrder, PreparedKeepsOrder, DecideKeepsOrder, JoiningKeepsOrder, UndoKeepsOrder, EndKeepsOrder, CutKeepsOrder, StepsMakeOrder, WholeReplays, WholeOnEach, WholeWithoutOperations, MembersHoldLocks, HoldersAsked, StoreIsMap, BeginningsSettleAlike}
+use Rattle.cl_order.specs.Laws.{OperationsKeepOrder, PreparedKeepsOrder, DecideKeepsOrder, JoiningKeepsOrder, UndoKeepsOrder, EndKeepsOrder, CutKeepsOrder, StepsKeepOrder, SparedStayWhole, StepsMakeOrder, StepsGoOn, WholeReplays, WholeOnEach, WholeWithoutOperations, MembersHoldLocks, HoldersAsked, StoreIsMap, BeginningsSettleAlike}
 use Rattle.cl_order.specs.Operations.{mode_of, is_held}
 use Rattle.cl_order.specs.Steps.{Step, carry_out, prepare, decide, join, undo, finish, cut, after_step, after_steps, AreEnabled, new_ledger}
 use Rattle.cl_order.proofs.Ledgers.{asked_where_locked, ordered_on, whole_from, whole_without, whole_everywhere, locked_where_strongest}
@@ -62,7 +63,7 @@ cut_keeps_order ledger v front ordered may = record {
 }
 
 -- each step
-pub steps_keep_order : (ledger : Ledger) (step : Step) → KeepsOrder ledger step
+pub steps_keep_order : StepsKeepOrder
 steps_keep_order ledger (carry_out txn place op) ordered may = operations_keep_order ledger txn place op ordered may
 steps_keep_order ledger (prepare v txn) ordered may = prepared_keeps_order ledger v txn ordered may
 steps_keep_order ledger (decide v txn) ordered may = decide_keeps_order ledger v txn ordered may
@@ -134,3 +135,15 @@ beginnings_settle_alike ledger v front ordered may place here =
 
 pub holders_asked : HoldersAsked
 holders_asked ledger txn place mode ordered holds = asked_where_locked ledger.done txn place (log_at ledger place) (ordered.for_operations (ledger.on place)) mode holds
+
+pub spared_stay_whole : SparedStayWhole
+spared_stay_whole ledger step txn ordered enabled spared whole =
+    let stays = steps_keep_order ledger step ordered enabled in
+    (whole_on_each (after_step ledger step) txn stays.ordered).1 (λ v. stays.whole txn v (spared v) ((whole_on_each ledger txn ordered).0 whole v))
+
+enabled_on : (ledger : Ledger) (steps more : List Step) → AreEnabled ledger steps → AreEnabled (after_steps ledger steps) more → AreEnabled ledger (steps ++ more)
+enabled_on ledger [] more h k = k
+enabled_on ledger (step ∷ steps) more h k = (h.0, enabled_on (after_step ledger step) steps more h.1 k)
+
+pub steps_go_on : StepsGoOn
+steps_go_on ledger steps more h k = (enabled_on ledger steps more h k, fold-append after_step ledger steps more)

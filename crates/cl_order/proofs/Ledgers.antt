@@ -224,3 +224,9 @@ pub whole_with_log : (ledger : Ledger) (v : ℕ) (log : List LogEntry) (txn : Tx
 whole_with_log ledger v log txn u keeps whole =
     whole_from (with_log ledger v log) txn u (λ place here.
     whole_at_log ledger v log txn u place (values_of ledger place) (ledger.done txn) (λ same. keeps same place (here ∙ same)) (whole_at ledger txn u whole place here))
+
+-- ---- ledgers that are the same
+
+pub same_ledger : (these those : Ledger) → ((place : Place) → these.on place ≡ those.on place) → ((v : ℕ) → these.logs v ≡ those.logs v) → these.history ≡ those.history →
+    ((txn : TxnId) → these.done txn ≡ those.done txn) → these ≡ those
+same_ledger these those on logs history done = λ i. record { on = λ place. on place i; logs = λ v. logs v i; history = history i; done = λ txn. done txn i }

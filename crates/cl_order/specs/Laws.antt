@@ -1,5 +1,5 @@
 -- What holds of ledgers.
-use Rattle.std.specs.Prelude.{◌≡◌, ◌↔◌, ℕ, Bool, true, false, List, Some, All}
+use Rattle.std.specs.Prelude.{◌≡◌, ◌↔◌, ℕ, Bool, true, false, List, ◌++◌, Some, All}
 use Rattle.cl_types.specs.declared.operations.Mode.{Mode}
 use Rattle.cl_types.specs.declared.operations.Mode.TheVariants.{Exclusive}
 use Rattle.cl_types.specs.declared.operations.Op.{Op}
@@ -44,9 +44,22 @@ EndKeepsOrder = (ledger : Ledger) (v : ℕ) (txn : TxnId) (commit : Bool) → Ke
 abbrev pub CutKeepsOrder : Type 0
 CutKeepsOrder = (ledger : Ledger) (v : ℕ) (front : List LogEntry) → KeepsOrder ledger (cut v front)
 
+abbrev pub StepsKeepOrder : Type 0
+StepsKeepOrder = (ledger : Ledger) (step : Step) → KeepsOrder ledger step
+
+-- a whole transaction that is spared everywhere stays whole
+abbrev pub SparedStayWhole : Type 0
+SparedStayWhole = (ledger : Ledger) (step : Step) (txn : TxnId) → IsOrdered ledger → IsEnabled ledger step → ((v : ℕ) → IsSpared ledger step txn v) →
+    IsWhole ledger txn → IsWhole (after_step ledger step) txn
+
 -- so the ledger is ordered after any steps from the start
 abbrev pub StepsMakeOrder : Type 0
 StepsMakeOrder = (on : Place → ℕ) (steps : List Step) → AreEnabled (new_ledger on) steps → IsOrdered (after_steps (new_ledger on) steps)
+
+-- steps that go on from others
+abbrev pub StepsGoOn : Type 0
+StepsGoOn = (ledger : Ledger) (steps more : List Step) → AreEnabled ledger steps → AreEnabled (after_steps ledger steps) more →
+    AreEnabled ledger (steps ++ more) × (after_steps ledger (steps ++ more) ≡ after_steps (after_steps ledger steps) more)
 
 -- whoever is whole replays on the map of the history
 abbrev pub WholeReplays : Type 0

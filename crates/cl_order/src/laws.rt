@@ -1,5 +1,5 @@
 //! What holds of ledgers. Each function does nothing: its contract is a law of the definitions.
-ghost use Rattle.cl_order.specs.Laws.{OperationsKeepOrder, PreparedKeepsOrder, DecideKeepsOrder, JoiningKeepsOrder, UndoKeepsOrder, EndKeepsOrder, CutKeepsOrder, StepsMakeOrder, WholeReplays, WholeOnEach, WholeWithoutOperations, MembersHoldLocks, HoldersAsked, StoreIsMap, BeginningsSettleAlike};
+ghost use Rattle.cl_order.specs.Laws.{OperationsKeepOrder, PreparedKeepsOrder, DecideKeepsOrder, JoiningKeepsOrder, UndoKeepsOrder, EndKeepsOrder, CutKeepsOrder, StepsKeepOrder, SparedStayWhole, StepsMakeOrder, StepsGoOn, WholeReplays, WholeOnEach, WholeWithoutOperations, MembersHoldLocks, HoldersAsked, StoreIsMap, BeginningsSettleAlike};
 
 /// An operation that is carried out under a lock that was held or free keeps a ledger ordered.
 /// Its transaction stays whole, and so does each other.
@@ -34,9 +34,13 @@ pub fn cut_keeps_order()
     ensures { CutKeepsOrder }
 {}
 
-/// A ledger is ordered after any steps that each have what they need.
+/// A ledger is ordered after any steps that each have what they need. Each step keeps it so, and
+/// leaves each transaction whole that it spares.
 pub fn steps_make_order()
-    ensures { StepsMakeOrder }
+    ensures each { StepsKeepOrder }
+    ensures spared { SparedStayWhole }
+    ensures all { StepsMakeOrder }
+    ensures more { StepsGoOn }
 {}
 
 /// The operations of a whole transaction, done on the map of the history, give the replies that

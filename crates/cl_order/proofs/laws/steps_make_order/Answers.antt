@@ -1,5 +1,14 @@
-use Rattle.cl_order.proofs.LawLemmas.{steps_make_order}
+use Rattle.cl_order.proofs.LawLemmas.{steps_keep_order, spared_stay_whole, steps_make_order, steps_go_on}
 use Rattle.cl_order.proofs.laws.steps_make_order.Goals as goal
 
-pub returns : goal.returns
-returns c = steps_make_order
+pub returns-clause-each : goal.returns-clause-each
+returns-clause-each c = steps_keep_order
+
+pub returns-clause-spared : goal.returns-clause-spared
+returns-clause-spared c = spared_stay_whole
+
+pub returns-clause-all : goal.returns-clause-all
+returns-clause-all c = steps_make_order
+
+pub returns-clause-more : goal.returns-clause-more
+returns-clause-more c = steps_go_on
