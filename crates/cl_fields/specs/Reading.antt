@@ -35,6 +35,7 @@ use Rattle.cl_fields.specs.declared.undecoded.Undecoded.TheVariants as undecoded
 abbrev pub Read : Type 0 → Type 0
 Read A = Result (A × List ℕ) WireFault
 
+-- a reader takes bytes from the left: what stands first with the bytes after it, or the fault
 abbrev pub Reader : Type 0 → Type 0
 Reader A = List ℕ → Read A
 
@@ -44,6 +45,7 @@ onward (Ok found) next = next found.0 found.1
 onward (Err fault) next = Err fault
 
 infixl 10 ◌>>=◌
+-- one reader after another: the first fault ends the reading
 abbrev pub ◌>>=◌ : {A B : Type 0} → Reader A → (A → Reader B) → Reader B
 (reader >>= next) bytes = onward (reader bytes) next
 
@@ -86,35 +88,43 @@ read_positive w = do
   n ← read_number w
   checked (nat_le 1 n) n
 
+-- a signed number of eight bytes, in two's complement
 unfoldable pub read_amount : Reader ℤ
 read_amount = do
   bits ← read_number w64
   done (cast_signed w64 bits)
 
+-- the byte 0 or 1
 unfoldable pub read_flag : Reader Bool
 read_flag = do
   b ← read_byte
   if b == 0 then done false else (if b == 1 then done true else out_of_range)
 
+-- the byte 1 for shared or 2 for exclusive
 unfoldable pub read_mode : Reader Mode
 read_mode = do
   b ← read_byte
   if b == tags.MODE_SHARED then done Shared else (if b == tags.MODE_EXCLUSIVE then done Exclusive else out_of_range)
 
+-- the byte of an actor
 abbrev pub read_actor : Reader ℕ
 read_actor = read_between 0 ACTOR_MAX
 
+-- the byte of a node
 abbrev pub read_node : Reader ℕ
 read_node = read_between 0 NODE_MAX
 
+-- the byte of a virtual node
 abbrev pub read_virtual_node : Reader ℕ
 read_virtual_node = read_between 0 VIRTUAL_NODE_MAX
 
+-- the number of a command in its transaction, four bytes
 unfoldable pub read_command_number : Reader ℕ
 read_command_number = do
   number ← read_number w32
   checked (nat_le number COMMAND_NUMBER_MAX) number
 
+-- a session, tested before a number of at least 1 is read
 unfoldable pub read_txn : Reader TxnId
 read_txn = do
   session ← read_between 1 SESSIONS_MAX
@@ -127,11 +137,13 @@ read_text = do
   count ← read_byte
   read_bytes count
 
+-- a length and that many bytes, which are a table's name
 unfoldable pub read_table : Reader (List ℕ)
 read_table = do
   text ← read_text
   checked (is_table_name text) text
 
+-- a length and that many bytes, which are a key
 unfoldable pub read_key : Reader (List ℕ)
 read_key = do
   text ← read_text
@@ -156,6 +168,7 @@ read_image = do
   there ← read_flag
   if there then (read_value >>= λ value. done (Some value)) else done None
 
+-- a flag, then an image where it is 0, an amount where it is 1
 unfoldable pub read_form : Reader Form
 read_form = do
   is_amount ← read_flag
@@ -177,11 +190,13 @@ read_work b = do
   op ← read_operand b
   done (table, key, op)
 
+-- the byte of an operation, table, key, then the value of a PUT or the amount of an ADD
 unfoldable pub read_op : Reader (List ℕ × List ℕ × Op)
 read_op = do
   b ← read_between tags.OP_GET tags.OP_ADD
   read_work b
 
+-- the byte of BEGIN, COMMIT or ABORT, or an operation
 unfoldable pub read_command : Reader ClientCommand
 read_command = do
   b ← read_byte
@@ -190,6 +205,7 @@ read_command = do
       else (if b == tags.COMMAND_ABORT then done Abort
       else (if is_between tags.OP_GET tags.OP_ADD b then (read_work b >>= λ work. done (Work work.0 work.1 work.2)) else out_of_range)))
 
+-- the byte of the case, then the value or the sum that it carries
 unfoldable pub read_reply : Reader Reply
 read_reply = do
   b ← read_byte
@@ -200,6 +216,7 @@ read_reply = do
       else (if b == tags.REPLY_NOT_NUMBER then done replies.NotNumber
       else (if b == tags.REPLY_OUT_OF_RANGE then done replies.OutOfRange else out_of_range)))))
 
+-- the byte of the case, then the transaction or the node that it carries
 unfoldable pub read_cause : Reader AbortCause
 read_cause = do
   b ← read_byte
@@ -208,6 +225,7 @@ read_cause = do
       else (if b == tags.CAUSE_CLIENT then done causes.Client
       else (if b == tags.CAUSE_MEMORY then done causes.Memory else out_of_range)))
 
+-- the byte of the case, then the reply or the cause that it carries
 unfoldable pub read_outcome : Reader CommandOutcome
 read_outcome = do
   b ← read_byte
@@ -216,6 +234,7 @@ read_outcome = do
       else (if b == tags.OUTCOME_COMMITTED then done outcomes.Committed
       else (if b == tags.OUTCOME_ABORTED then (read_cause >>= λ cause. done (outcomes.Aborted cause)) else out_of_range)))
 
+-- the byte of the case, then the reply or the transaction that it carries
 unfoldable pub read_answer : Reader OpAnswer
 read_answer = do
   b ← read_byte
@@ -223,6 +242,7 @@ read_answer = do
       else (if b == tags.ANSWER_REFUSED then (read_txn >>= λ holder. done (answers.Refused holder))
       else (if b == tags.ANSWER_NO_MEMORY then done answers.NoMemory else out_of_range))
 
+-- the fields of a Touch in order
 unfoldable pub read_touch : Reader LogRec
 read_touch = do
   txn ← read_txn
@@ -231,6 +251,7 @@ read_touch = do
   mode ← read_mode
   done (entries.Touch txn table key mode)
 
+-- the fields of a Set in order
 unfoldable pub read_set : Reader LogRec
 read_set = do
   txn ← read_txn
@@ -241,6 +262,7 @@ read_set = do
   new ← read_image
   done (entries.Set txn table key before old new)
 
+-- the fields of an Add in order
 unfoldable pub read_add : Reader LogRec
 read_add = do
   txn ← read_txn
@@ -250,6 +272,7 @@ read_add = do
   amount ← read_amount
   done (entries.Add txn table key before amount)
 
+-- the fields of a Comp in order
 unfoldable pub read_comp : Reader LogRec
 read_comp = do
   txn ← read_txn
@@ -260,6 +283,7 @@ read_comp = do
   form ← read_form
   done (entries.Comp txn table key before undone form)
 
+-- the fields of an End in order
 unfoldable pub read_end : Reader LogRec
 read_end = do
   txn ← read_txn

@@ -24,6 +24,7 @@ use Rattle.cl_log.specs.declared.records.LogRec.TheVariants as entries
 use Rattle.cl_store.specs.declared.item.Item.{Item}
 use Rattle.cl_fields.specs.declared.tags.TheConstants as tags
 
+-- a number below 256 is one byte
 abbrev pub byte : ℕ → List ℕ
 byte n = n ∷ []
 
@@ -39,14 +40,17 @@ number_64 n = to_be_bytes w64 n
 unfoldable pub amount_bytes : ℤ → List ℕ
 amount_bytes amount = number_64 (cast_unsigned w64 amount)
 
+-- 0 for false, 1 for true
 abbrev pub flag_byte : Bool → ℕ
 flag_byte false = 0
 flag_byte true = 1
 
+-- 1 for shared, 2 for exclusive
 abbrev pub mode_byte : Mode → ℕ
 mode_byte Shared = tags.MODE_SHARED
 mode_byte Exclusive = tags.MODE_EXCLUSIVE
 
+-- one byte of session, eight of number
 unfoldable pub txn_bytes : TxnId → List ℕ
 txn_bytes txn = byte txn.session ++ number_64 txn.number
 
@@ -63,6 +67,7 @@ unfoldable pub image_bytes : Option (List ℕ) → List ℕ
 image_bytes None = byte 0
 image_bytes (Some value) = byte 1 ++ value_bytes value
 
+-- 0 and an image to write, or 1 and an amount to subtract
 unfoldable pub form_bytes : Form → List ℕ
 form_bytes (Image image) = byte 0 ++ image_bytes image
 form_bytes (Amount amount) = byte 1 ++ amount_bytes amount
@@ -81,15 +86,18 @@ operand_bytes (Put value) = value_bytes value
 operand_bytes Del = []
 operand_bytes (Add amount) = amount_bytes amount
 
+-- the operation's byte, table, key, then the value of a PUT or the amount of an ADD
 unfoldable pub op_bytes : List ℕ → List ℕ → Op → List ℕ
 op_bytes table key op = byte (op_byte op) ++ name_bytes table ++ name_bytes key ++ operand_bytes op
 
+-- 0 for BEGIN, 5 for COMMIT, 6 for ABORT, or the operation
 unfoldable pub command_bytes : ClientCommand → List ℕ
 command_bytes Begin = byte tags.COMMAND_BEGIN
 command_bytes (Work table key op) = op_bytes table key op
 command_bytes Commit = byte tags.COMMAND_COMMIT
 command_bytes Abort = byte tags.COMMAND_ABORT
 
+-- the byte of the case, then the value or the sum that it carries
 unfoldable pub reply_bytes : Reply → List ℕ
 reply_bytes replies.Stored = byte tags.REPLY_STORED
 reply_bytes (replies.Found value) = byte tags.REPLY_FOUND ++ value_bytes value
@@ -98,6 +106,7 @@ reply_bytes (replies.Sum sum) = byte tags.REPLY_SUM ++ amount_bytes sum
 reply_bytes replies.NotNumber = byte tags.REPLY_NOT_NUMBER
 reply_bytes replies.OutOfRange = byte tags.REPLY_OUT_OF_RANGE
 
+-- the byte of the case, then the transaction or the node that it carries
 unfoldable pub cause_bytes : AbortCause → List ℕ
 cause_bytes (causes.Conflict txn) = byte tags.CAUSE_CONFLICT ++ txn_bytes txn
 cause_bytes (causes.Node node) = byte tags.CAUSE_NODE ++ byte node
@@ -114,6 +123,7 @@ outcome_bytes outcomes.NotTxn = []
 outcome_bytes outcomes.InTxn = []
 outcome_bytes outcomes.Full = []
 
+-- the byte of the case, then the reply or the transaction that it carries
 unfoldable pub answer_bytes : OpAnswer → List ℕ
 answer_bytes (answers.Done reply) = byte tags.ANSWER_DONE ++ reply_bytes reply
 answer_bytes (answers.Refused holder) = byte tags.ANSWER_REFUSED ++ txn_bytes holder

@@ -34,6 +34,7 @@ module _ {T : Type 0} where
   item_of (Item item) = Some item
   item_of (Free next) = None
 
+  -- the item of each slot, or none where it is free
   abbrev pub items : List (LinkedSlot T) → List (Option T)
   items slots = map item_of (contents slots)
 
@@ -42,6 +43,7 @@ module _ {T : Type 0} where
   is_item (Item item) = true
   is_item (Free next) = false
 
+  -- whether each slot has an item
   abbrev pub used : List (LinkedSlot T) → List Bool
   used slots = map is_item (contents slots)
 
@@ -50,6 +52,7 @@ module _ {T : Type 0} where
   next_free (Item item) = None
   next_free (Free next) = Some next
 
+  -- of each slot that is free, the next free one
   abbrev pub frees : List (LinkedSlot T) → List (Option (Option ℕ))
   frees slots = map next_free (contents slots)
 

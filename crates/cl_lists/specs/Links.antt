@@ -17,6 +17,7 @@ abbrev pub after : List ℕ → Option ℕ → Option ℕ
 after list None = first_of list
 after list (Some slot) = after_in list slot
 
+-- the slot before, or none at the front
 abbrev pub before : List ℕ → Option ℕ → Option ℕ
 before list None = last_of list
 before list (Some slot) = before_in list slot
@@ -25,6 +26,7 @@ before list (Some slot) = before_in list slot
 abbrev pub no_link : Link
 no_link = record { prev = None; next = None; list = 0 }
 
+-- an empty list has no first and no last slot
 abbrev pub no_ends : Ends
 no_ends = record { first = None; last = None }
 
@@ -32,6 +34,7 @@ no_ends = record { first = None; last = None }
 abbrev pub link_at : List Link → ℕ → Link
 link_at links slot = slice_index_or links slot no_link
 
+-- the first and last slot of the list of a number
 abbrev pub ends_at : List Ends → ℕ → Ends
 ends_at ends number = slice_index_or ends number no_ends
 
@@ -64,6 +67,7 @@ links_with direction links None neighbour = links
 links_with Forward links (Some slot) neighbour = slice_set links slot (record (link_at links slot) { next = neighbour })
 links_with Backward links (Some slot) neighbour = slice_set links slot (record (link_at links slot) { prev = neighbour })
 
+-- the ends of the lists after that write
 abbrev pub ends_with : Direction → List Ends → ℕ → Option ℕ → Option ℕ → List Ends
 ends_with direction ends number (Some slot) neighbour = ends
 ends_with Forward ends number None neighbour = slice_set ends number (record (ends_at ends number) { first = neighbour })

@@ -27,10 +27,12 @@ opens (End txn commit) = false
 opens (Decide txn) = false
 opens content = true
 
+-- it is a Prepared
 abbrev pub is_prepared : LogRec → Bool
 is_prepared (Prepared txn) = true
 is_prepared content = false
 
+-- it is an End, with commit or without
 abbrev pub is_end : LogRec → Bool
 is_end (End txn commit) = true
 is_end content = false

@@ -24,6 +24,7 @@ pub record UndoesFirst (seen : List LogEntry) (content : LogRec) : Type 0 where
 abbrev pub UndoesInOrder : List LogEntry → Type 0
 UndoesInOrder entries = EachAfter (λ seen entry. (number : ℕ) → undoes number entry.content ≡ true → UndoesFirst seen entry.content) [] entries
 
+-- it is a Decide
 abbrev pub is_decide : LogRec → Bool
 is_decide (Decide txn) = true
 is_decide content = false

@@ -74,6 +74,7 @@ pub data IsSettling (entries : List LogEntry) (history : List TxnId) (entry : Lo
   -- the End of a transaction of the history, or of one with nothing left to undo
   end : is_end entry.content ≡ true → (is_among (txn_of entry.content) history ≡ true) ⊎ (rest_to_undo entries (txn_of entry.content) ≡ []) → IsSettling entries history entry
 
+-- one more such record leaves each place's settled value
 abbrev pub RecordsKeepSettled : Type 0
 RecordsKeepSettled = (entries : List LogEntry) (history : List TxnId) (entry : LogEntry) → IsSettling entries history entry →
     (place : Place) → settled (entries ++ entry ∷ []) history place ≡ settled entries history place
@@ -84,6 +85,7 @@ pub record IsLeastOpen (entries : List LogEntry) (next low : ℕ) : Type 0 where
   pub least : (before : List LogEntry) (entry : LogEntry) (after : List LogEntry) → entries ≡ before ++ entry ∷ after → is_open entries (txn_of entry.content) ≡ true → low ≤ entry.number
   pub found : (low ≡ next) ⊎ ((before : List LogEntry) × (entry : LogEntry) × (after : List LogEntry) × (entries ≡ before ++ entry ∷ after) × (is_open entries (txn_of entry.content) ≡ true) × (low ≡ entry.number))
 
+-- the low number is the least number of a record of an open transaction, or the next number where none is open
 abbrev pub LowIsLeastOpen : Type 0
 LowIsLeastOpen = (entries : List LogEntry) (n : ℕ) → IsNumberedFrom n entries → IsLeastOpen entries (n + length entries) (low_of entries (n + length entries))
 

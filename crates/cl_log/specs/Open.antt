@@ -22,9 +22,11 @@ has_record test txn entries = list_any (λ entry. is_of txn entry.content && tes
 unfoldable pub has_begun : List LogEntry → TxnId → Bool
 has_begun entries txn = has_record opens txn entries
 
+-- the log has a Prepared of the transaction
 unfoldable pub has_prepared : List LogEntry → TxnId → Bool
 has_prepared entries txn = has_record is_prepared txn entries
 
+-- the log has an End of the transaction
 unfoldable pub has_ended : List LogEntry → TxnId → Bool
 has_ended entries txn = has_record is_end txn entries
 

@@ -20,6 +20,7 @@ times_undone entries number = count_by (λ entry. undoes number entry.content) e
 abbrev pub is_left : List LogEntry → LogEntry → Bool
 is_left entries entry = can_be_undone entry.content && not (is_undone entries entry.number)
 
+-- the same, and it is of this transaction
 abbrev pub is_left_of : List LogEntry → TxnId → LogEntry → Bool
 is_left_of entries txn entry = is_of txn entry.content && is_left entries entry
 

@@ -12,6 +12,7 @@ use Rattle.cl_redo.specs.declared.write.Guarded.TheVariants.{Write, Skip}
 abbrev pub guarded : LogRec → ℕ → Stored → Guarded
 guarded content before stored = if stored.0 == before then Write (value_after content stored.1) else Skip
 
+-- what taking the record answers, by what is done with its write
 abbrev pub redone_of : Guarded → Redone
 redone_of (Write value) = Applied
 redone_of Skip = Skipped

@@ -5,6 +5,7 @@ use Rattle.cl_roster.specs.Roster.{IsClusterSize, IsLawfulRoster}
 use Rattle.cl_roster.specs.Standing.{Stands}
 use Rattle.cl_roster.specs.View.{RosterView}
 
+-- what contracts see of a roster's fields
 abbrev pub view_of : Inside → RosterView
 view_of roster = record { nodes = roster.nodes; spares = roster.spares; entries = entries roster.entries; room = room roster.entries }
 

@@ -35,6 +35,7 @@ is_living entries n = not (has_stopped entries n)
 abbrev pub lowest_alone : ℕ → List RosterEntry → ℕ → Option ℕ
 lowest_alone nodes entries n = find (λ v. is_only_member (roles_after nodes entries v) n) (range_with_len 0 nodes)
 
+-- refused where there is such a virtual node, admitted where there is none
 abbrev pub refused_as_last : Option ℕ → Result (Unit {0}) StopFault
 refused_as_last None = Ok tt
 refused_as_last (Some v) = Err (Last v)

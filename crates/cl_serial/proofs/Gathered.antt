@@ -5,7 +5,8 @@ use Rattle.cl_types.specs.declared.operations.Command.{Command}
 use Rattle.cl_types.specs.declared.answers.Outcome.{Outcome}
 use Rattle.cl_serial.specs.Transcript.{TranscriptEntry, fed, written, gather, fed_line, fed_lines}
 use Rattle.cl_lines.specs.declared.out.Out.{Out}
-use Rattle.cl_serial.specs.Exchanges.{unanswered, answered, with_first_answered, pair_up, in_turn}
+use Rattle.cl_serial.specs.Laws.{with_first_answered}
+use Rattle.cl_serial.specs.Exchanges.{unanswered, answered, pair_up, in_turn}
 
 -- what is gathered of two lists of entries, one behind the other
 pub gather-append : {A : Type 0} (pick : ℕ → TranscriptEntry → List A) (position : ℕ) (xs ys : List TranscriptEntry) → gather pick position (xs ++ ys) ≡ gather pick position xs ++ gather pick (position + length xs) ys

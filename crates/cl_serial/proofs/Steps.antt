@@ -11,7 +11,8 @@ use Rattle.cl_types.specs.declared.answers.Outcome.{Outcome}
 use Rattle.cl_lines.specs.declared.out.Out.TheVariants.{Answer}
 use Rattle.cl_lines.specs.Line.{client_of}
 use Rattle.cl_serial.specs.Transcript.{TranscriptEntry, entry_text, full_text, fed, written, asked_in, answered_in, questions, answers, command_in, outcome_in}
-use Rattle.cl_serial.specs.Exchanges.{Exchange, unanswered, answered, AreAnswered, pair_up, exchanges, in_turn, after_answer, with_first_answered}
+use Rattle.cl_serial.specs.Laws.{AreAnswered, with_first_answered}
+use Rattle.cl_serial.specs.Exchanges.{Exchange, unanswered, answered, pair_up, exchanges, in_turn, after_answer}
 use Rattle.cl_serial.specs.Transactions.{session_step, session_after, session_state, commands_of}
 use Rattle.cl_serial.specs.PlainMap.{operations, no_values, after_operation, after_operations}
 use Rattle.cl_serial.specs.Serial.{operations_of, values_after}

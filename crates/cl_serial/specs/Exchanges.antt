@@ -1,5 +1,5 @@
 -- The exchanges of a session: its lines and their answers.
-use Rattle.std.specs.Prelude.{ℕ, List, [], ◌∷◌, Option, Some, None, IsSome, All}
+use Rattle.std.specs.Prelude.{ℕ, List, [], ◌∷◌, Option, Some, None}
 use Rattle.cl_types.specs.declared.operations.Command.{Command}
 use Rattle.cl_types.specs.declared.answers.Outcome.{Outcome}
 use Rattle.cl_serial.specs.Transcript.{TranscriptEntry, questions, answers}
@@ -17,10 +17,6 @@ unanswered asked = record { command = asked.0; line = asked.1; answer = None }
 -- an exchange with its answer
 abbrev pub answered : Command × ℕ → Outcome × ℕ → Exchange
 answered asked answer = record { command = asked.0; line = asked.1; answer = Some answer }
-
--- each exchange has its answer
-abbrev pub AreAnswered : List Exchange → Type 0
-AreAnswered list = All (λ exchange. IsSome exchange.answer) list
 
 -- the k-th command is answered by the k-th answer
 unfoldable pub pair_up : List (Command × ℕ) → List (Outcome × ℕ) → List Exchange
@@ -45,8 +41,3 @@ after_answer (Some answer) rest = rest
 unfoldable pub in_turn : List Exchange → List Exchange
 in_turn [] = []
 in_turn (exchange ∷ rest) = exchange ∷ after_answer exchange.answer (in_turn rest)
-
--- the exchanges, where the first without an answer has this one
-abbrev pub with_first_answered : Outcome × ℕ → List Exchange → List Exchange
-with_first_answered answer [] = []
-with_first_answered answer (exchange ∷ rest) = elim exchange.answer [ None ↦ answered (exchange.command, exchange.line) answer ∷ rest | Some before ↦ exchange ∷ with_first_answered answer rest ]

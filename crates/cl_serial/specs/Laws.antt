@@ -1,15 +1,24 @@
 -- The laws of transcripts and replays: what one more entry extends, and how replays join.
-use Rattle.std.specs.Prelude.{◌≡◌, ℕ, ◌≤◌, List, [], ◌∷◌, ◌++◌, length, Some, ◌↔◌}
+use Rattle.std.specs.Prelude.{◌≡◌, ℕ, ◌≤◌, List, [], ◌∷◌, ◌++◌, length, Option, Some, None, IsSome, All, ◌↔◌}
 use Rattle.cl_types.specs.declared.operations.Command.{Command}
 use Rattle.cl_types.specs.declared.operations.TxnId.{TxnId}
 use Rattle.cl_types.specs.declared.answers.Outcome.{Outcome}
 use Rattle.cl_lines.specs.declared.out.Out.TheVariants.{Answer}
 use Rattle.cl_lines.specs.Line.{client_of}
 use Rattle.cl_serial.specs.Transcript.{TranscriptEntry, fed, written, fed_line, fed_lines, entry_text, full_text, asked_in, answered_in, questions, answers, faulty_in, faulty_lines, refused_in, refusals}
-use Rattle.cl_serial.specs.Exchanges.{Exchange, unanswered, answered, AreAnswered, exchanges, with_first_answered}
+use Rattle.cl_serial.specs.Exchanges.{Exchange, unanswered, answered, exchanges}
 use Rattle.cl_serial.specs.Transactions.{session_step, session_after, session_state}
 use Rattle.cl_serial.specs.PlainMap.{Values, Operation, after_operations, RepliesAgree}
 use Rattle.cl_serial.specs.Serial.{operations_of, values_after}
+
+-- each exchange has its answer
+abbrev pub AreAnswered : List Exchange → Type 0
+AreAnswered list = All (λ exchange. IsSome exchange.answer) list
+
+-- the exchanges, where the first without an answer has this one
+abbrev pub with_first_answered : Outcome × ℕ → List Exchange → List Exchange
+with_first_answered answer [] = []
+with_first_answered answer (exchange ∷ rest) = elim exchange.answer [ None ↦ answered (exchange.command, exchange.line) answer ∷ rest | Some before ↦ exchange ∷ with_first_answered answer rest ]
 
 -- one more entry adds to a session's questions the command that it asks, with its position
 abbrev pub EntryAddsItsQuestion : Type 0
@@ -26,10 +35,12 @@ abbrev pub EntryAddsItsLine : Type 0
 EntryAddsItsLine = (transcript : List TranscriptEntry) (entry : TranscriptEntry) →
     fed_lines (transcript ++ entry ∷ []) ≡ fed_lines transcript ++ fed_line (length transcript) entry
 
+-- one more entry adds the fault of its line to those of the fed lines
 abbrev pub EntryAddsItsFault : Type 0
 EntryAddsItsFault = (transcript : List TranscriptEntry) (entry : TranscriptEntry) →
     faulty_lines (transcript ++ entry ∷ []) ≡ faulty_lines transcript ++ faulty_in (length transcript) entry
 
+-- one more entry adds the refusal that it writes
 abbrev pub EntryAddsItsRefusal : Type 0
 EntryAddsItsRefusal = (transcript : List TranscriptEntry) (entry : TranscriptEntry) →
     refusals (transcript ++ entry ∷ []) ≡ refusals transcript ++ refused_in (length transcript) entry

@@ -35,6 +35,7 @@ operation_by (Work table key op) outcome = record { place = (table, key); op = o
 operation_by Commit outcome = []
 operation_by Abort outcome = []
 
+-- the operation that an exchange is, where it is one
 abbrev pub operation_in : Exchange → List Operation
 operation_in exchange = operation_by exchange.command (outcome_of exchange)
 

@@ -23,6 +23,7 @@ pub record Session : Type 0 where
 abbrev pub new_session : Session
 new_session = record { ended = []; current = None }
 
+-- whether a command is BEGIN
 abbrev pub is_begin : Command → Bool
 is_begin Begin = true
 is_begin (Work table key op) = false
@@ -93,6 +94,7 @@ numbered list (suc k) = slice_get list k
 abbrev pub transaction_of : List TranscriptEntry → TxnId → Option Transaction
 transaction_of transcript name = numbered (transactions name.session transcript) name.number
 
+-- the exchanges of a transaction's commands; none where there is no transaction
 abbrev pub commands_in : Option Transaction → List Exchange
 commands_in None = []
 commands_in (Some transaction) = transaction.commands

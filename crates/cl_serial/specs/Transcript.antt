@@ -14,6 +14,7 @@ use Rattle.cl_lines.specs.Out.{text_of}
 use Rattle.cl_serial.specs.declared.transcript.Said.{Said}
 use Rattle.cl_serial.specs.declared.transcript.Said.TheVariants as said
 
+-- what stands at one position of a transcript
 pub data TranscriptEntry : Type 0 where
   -- the line of this number, counted from 1, and its text
   fed : ℕ → List ℕ → TranscriptEntry

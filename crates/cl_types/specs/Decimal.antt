@@ -70,5 +70,6 @@ PrintedIsValue = (z : ℤ) → is_signed_64 z ≡ true → is_value (signed_deci
 abbrev pub NaturalPrintedIsRead : Type 0
 NaturalPrintedIsRead = (n : ℕ) → n < 2 ^ 64 → natural_64 (decimal n) ≡ Some n
 
+-- a text that is read as a number below 2^64 is its printed text
 abbrev pub NaturalReadIsPrinted : Type 0
 NaturalReadIsPrinted = (text : List ℕ) (n : ℕ) → natural_64 text ≡ Some n → (text ≡ decimal n) × (n < 2 ^ 64)

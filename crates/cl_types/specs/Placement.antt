@@ -13,6 +13,7 @@ hash_of key = fold with_byte 2166136261 key
 abbrev pub is_node_count : ℕ → Bool
 is_node_count nodes = (nodes == 2) || (nodes == 4) || (nodes == 6) || (nodes == 8)
 
+-- 2, 4, 6 or 8, as a condition
 abbrev pub IsNodeCount : ℕ → Type 0
 IsNodeCount nodes = IsTrue (is_node_count nodes)
 

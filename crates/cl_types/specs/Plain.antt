@@ -20,10 +20,12 @@ sum_reply sum = if is_signed_64 sum then Sum sum else OutOfRange
 abbrev pub sum_value : Option (List ℕ) → ℤ → Option (List ℕ)
 sum_value old sum = if is_signed_64 sum then Some (signed_decimal sum) else old
 
+-- the reply to an addition: no number there, a sum outside signed 64 bits, or the sum
 abbrev pub add_reply : Option ℤ → ℤ → Reply
 add_reply None amount = NotNumber
 add_reply (Some number) amount = sum_reply (number +ℤ amount)
 
+-- the value after an addition: the sum's canonical text, or the old value where there is no such sum
 abbrev pub add_value : Option (List ℕ) → Option ℤ → ℤ → Option (List ℕ)
 add_value old None amount = old
 add_value old (Some number) amount = sum_value old (number +ℤ amount)

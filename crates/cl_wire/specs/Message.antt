@@ -33,6 +33,7 @@ pub data Content : Type 0 where
   Names : (v : ℕ) → (index : ℕ) → (last : Bool) → (low : ℕ) → (txns : List TxnId) → Content
   CopyAck : (v : ℕ) → (index : ℕ) → Content
 
+-- what a packet says: sender, receiver, set number, message number, acknowledgement, content
 pub record Message : Type 0 where
   pub from : ℕ
   pub to : ℕ
@@ -71,6 +72,7 @@ message_of packet = record {
   content = content_of packet.body;
 }
 
+-- the kind of a content
 abbrev pub kind_of : Content → Kind
 kind_of Bare = kinds.Bare
 kind_of (Command v txn command_number asked) = kinds.Command

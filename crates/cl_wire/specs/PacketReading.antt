@@ -19,6 +19,7 @@ abbrev pub checked_kind : Option Kind → Reader Kind
 checked_kind (Some kind) bytes = Ok (kind, bytes)
 checked_kind None bytes = Err faults.Kind
 
+-- the kind whose byte comes next; a byte above 15 is the fault Kind
 unfoldable pub read_kind : Reader Kind
 read_kind = do
   b ← read_byte
@@ -107,14 +108,17 @@ abbrev pub is_seq : Kind → ℕ → Bool
 is_seq kinds.Bare seq = seq == 0
 is_seq kind seq = nat_le 1 seq
 
+-- the message's number: 0 for a bare acknowledgement, at least 1 for every other kind
 unfoldable pub read_seq : Kind → Reader ℕ
 read_seq kind = do
   seq ← read_number w64
   checked (is_seq kind seq) seq
 
+-- the version's byte
 abbrev pub read_version : Reader ℕ
 read_version = read_between version version
 
+-- the fields of the header from the left, the version first
 unfoldable pub read_header : Reader Header
 read_header = do
   _ ← read_version

@@ -5,6 +5,7 @@ use Rattle.cl_wire.specs.declared.kind.Kind.{Kind}
 use Rattle.cl_wire.specs.declared.kind.Kind.TheVariants as kinds
 use Rattle.cl_wire.specs.Message.{Content, Message, kind_of, Bare, Command, Outcome, Ask, Answer, Prepare, Vote, Finish, Inquire, Decision, Log, LogAck, Repair, Records, Names, CopyAck}
 
+-- each field of the content is in its range
 abbrev pub IsContent : Content → Type 0
 IsContent Bare = Unit {0}
 IsContent (Command v txn command_number asked) = IsVirtualNode v × IsTxn txn × IsCommandNumber command_number × IsCommand asked

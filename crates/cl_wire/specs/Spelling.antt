@@ -5,6 +5,7 @@ use Rattle.cl_wire.specs.declared.kind.Kind.{Kind}
 use Rattle.cl_wire.specs.declared.kind.Kind.TheVariants as kinds
 use Rattle.cl_wire.specs.Message.{Content, Message, kind_of, Bare, Command, Outcome, Ask, Answer, Prepare, Vote, Finish, Inquire, Decision, Log, LogAck, Repair, Records, Names, CopyAck}
 
+-- the byte of a kind of packet
 abbrev pub kind_byte : Kind → ℕ
 kind_byte kinds.Bare = 0
 kind_byte kinds.Command = 1

@@ -42,6 +42,7 @@ abbrev pub count_in : Option Transaction → Option ℕ
 count_in None = None
 count_in (Some transaction) = Some (length (operations transaction.commands))
 
+-- the operations of a transaction's commands, in order
 abbrev pub operations_in : Transaction → List Operation
 operations_in transaction = operations transaction.commands
 
