@@ -1,4 +1,4 @@
--- What holds of ledgers.
+-- What holds of ordered ledgers: what each step keeps, and what can be read off.
 use Rattle.std.specs.Prelude.{◌≡◌, ◌↔◌, ℕ, Bool, true, false, List, ◌++◌, Some, All}
 use Rattle.cl_types.specs.declared.operations.Mode.{Mode}
 use Rattle.cl_types.specs.declared.operations.Mode.TheVariants.{Exclusive}
@@ -14,36 +14,44 @@ use Rattle.cl_order.specs.Operations.{mode_of, is_held}
 use Rattle.cl_order.specs.Ledger.{Ledger, log_at, stored_at, lock_at, values_of, has_operation_at, asks_at, IsOrdered, IsWholeOn, IsWhole}
 use Rattle.cl_order.specs.Steps.{Step, carry_out, prepare, decide, join, undo, finish, cut, after_step, IsEnabled, MayCut, IsSpared, after_steps, AreEnabled, new_ledger}
 
--- after a step the ledger is ordered, and who is spared stays whole
+-- after the step the ledger is ordered, and each transaction that it spares is as whole as it was
 pub record StaysOrdered (ledger : Ledger) (step : Step) : Type 0 where
   pub ordered : IsOrdered (after_step ledger step)
   pub whole : (txn : TxnId) (v : ℕ) → IsSpared ledger step txn v → IsWholeOn ledger txn v → IsWholeOn (after_step ledger step) txn v
 
--- the step keeps an ordered ledger ordered
+-- on an ordered ledger an enabled step does so
 abbrev pub KeepsOrder : Ledger → Step → Type 0
 KeepsOrder ledger step = IsOrdered ledger → IsEnabled ledger step → StaysOrdered ledger step
 
+-- an operation that is carried out keeps order, and leaves all transactions whole
 abbrev pub OperationsKeepOrder : Type 0
 OperationsKeepOrder = (ledger : Ledger) (txn : TxnId) (place : Place) (op : Op) → KeepsOrder ledger (carry_out txn place op)
 
+-- so does a Prepared
 abbrev pub PreparedKeepsOrder : Type 0
 PreparedKeepsOrder = (ledger : Ledger) (v : ℕ) (txn : TxnId) → KeepsOrder ledger (prepare v txn)
 
+-- and a Decide
 abbrev pub DecideKeepsOrder : Type 0
 DecideKeepsOrder = (ledger : Ledger) (v : ℕ) (txn : TxnId) → KeepsOrder ledger (decide v txn)
 
+-- a whole transaction that joins the history keeps order, and leaves the others whole
 abbrev pub JoiningKeepsOrder : Type 0
 JoiningKeepsOrder = (ledger : Ledger) (txn : TxnId) → KeepsOrder ledger (join txn)
 
+-- so does an undo step
 abbrev pub UndoKeepsOrder : Type 0
 UndoKeepsOrder = (ledger : Ledger) (v : ℕ) (content : LogRec) → KeepsOrder ledger (undo v content)
 
+-- and an End
 abbrev pub EndKeepsOrder : Type 0
 EndKeepsOrder = (ledger : Ledger) (v : ℕ) (txn : TxnId) (commit : Bool) → KeepsOrder ledger (finish v txn commit)
 
+-- a log that loses an end keeps order, and leaves those whole that lose nothing
 abbrev pub CutKeepsOrder : Type 0
 CutKeepsOrder = (ledger : Ledger) (v : ℕ) (front : List LogEntry) → KeepsOrder ledger (cut v front)
 
+-- each of these steps
 abbrev pub StepsKeepOrder : Type 0
 StepsKeepOrder = (ledger : Ledger) (step : Step) → KeepsOrder ledger step
 
@@ -52,24 +60,24 @@ abbrev pub SparedStayWhole : Type 0
 SparedStayWhole = (ledger : Ledger) (step : Step) (txn : TxnId) → IsOrdered ledger → IsEnabled ledger step → ((v : ℕ) → IsSpared ledger step txn v) →
     IsWhole ledger txn → IsWhole (after_step ledger step) txn
 
--- so the ledger is ordered after any steps from the start
+-- a ledger is ordered after any steps from the start, each enabled in its turn
 abbrev pub StepsMakeOrder : Type 0
 StepsMakeOrder = (on : Place → ℕ) (steps : List Step) → AreEnabled (new_ledger on) steps → IsOrdered (after_steps (new_ledger on) steps)
 
--- steps that go on from others
+-- more steps may follow steps, and are done after them
 abbrev pub StepsGoOn : Type 0
 StepsGoOn = (ledger : Ledger) (steps more : List Step) → AreEnabled ledger steps → AreEnabled (after_steps ledger steps) more →
     AreEnabled ledger (steps ++ more) × (after_steps ledger (steps ++ more) ≡ after_steps (after_steps ledger steps) more)
 
--- whoever is whole replays on the map of the history
+-- the operations of a whole transaction, done on the map of the history, give the replies that were given
 abbrev pub WholeReplays : Type 0
 WholeReplays = (ledger : Ledger) (txn : TxnId) → IsOrdered ledger → IsWhole ledger txn → RepliesAgree (values_of ledger) (ledger.done txn)
 
--- a transaction is whole exactly where it is so on each virtual node
+-- a transaction is whole exactly where it is whole on each virtual node
 abbrev pub WholeOnEach : Type 0
 WholeOnEach = (ledger : Ledger) (txn : TxnId) → IsOrdered ledger → (IsWhole ledger txn ↔ ((v : ℕ) → IsWholeOn ledger txn v))
 
--- and on a virtual node on which it has no operation it is
+-- it is whole on a virtual node where it has no operation
 abbrev pub WholeWithoutOperations : Type 0
 WholeWithoutOperations = (ledger : Ledger) (txn : TxnId) (v : ℕ) → IsOrdered ledger →
     ((place : Place) → ledger.on place ≡ v → has_operation_at (ledger.done txn) place ≡ false) → IsWholeOn ledger txn v
@@ -79,16 +87,16 @@ abbrev pub MembersHoldLocks : Type 0
 MembersHoldLocks = (ledger : Ledger) (txn : TxnId) → IsOrdered ledger → is_among txn ledger.history ≡ true →
     All (λ operation. has_ended (log_at ledger operation.place) txn ≡ false → is_held (lock_at ledger txn operation.place) (mode_of operation.op) ≡ true) (ledger.done txn)
 
--- whoever holds a lock has an operation there that asks for it
+-- whoever holds a lock has an operation there that asked for it
 abbrev pub HoldersAsked : Type 0
 HoldersAsked = (ledger : Ledger) (txn : TxnId) (place : Place) (mode : Mode) → IsOrdered ledger → lock_at ledger txn place ≡ Some mode → asks_at (ledger.done txn) place mode ≡ true
 
--- where only members hold an exclusive lock the store is the map
+-- at a place that no transaction outside the history has locked exclusively, the store has what the map has
 abbrev pub StoreIsMap : Type 0
 StoreIsMap = (ledger : Ledger) (place : Place) → IsOrdered ledger → ((txn : TxnId) → lock_at ledger txn place ≡ Some Exclusive → is_among txn ledger.history ≡ true) →
     (stored_at ledger place).1 ≡ values_of ledger place
 
--- each beginning of a log that a cut could leave settles to the same map
+-- each beginning that a cut may leave settles to the map of the history
 abbrev pub BeginningsSettleAlike : Type 0
 BeginningsSettleAlike = (ledger : Ledger) (v : ℕ) (front : List LogEntry) → IsOrdered ledger → MayCut ledger v front →
     (place : Place) → ledger.on place ≡ v → settled front ledger.history place ≡ values_of ledger place

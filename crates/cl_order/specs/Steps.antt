@@ -1,4 +1,4 @@
--- The steps that change a ledger.
+-- The steps of a ledger: what each needs, and what it makes of the ledger.
 use Rattle.std.specs.Prelude.{◌≡◌, ◌≢◌, ℕ, ◌+◌, Bool, true, false, ◌==◌, if◌then◌else◌, List, [], ◌∷◌, ◌++◌, length, Option, Some, None, fold}
 use Rattle.cl_types.specs.declared.operations.Op.{Op}
 use Rattle.cl_types.specs.declared.operations.TxnId.{TxnId}
@@ -19,23 +19,24 @@ use Rattle.cl_serial.specs.PlainMap.{Operation}
 use Rattle.cl_order.specs.Operations.{mode_of, is_held, record_of}
 use Rattle.cl_order.specs.Ledger.{Ledger, log_at, stored_at, lock_at, IsWhole}
 
+-- a change of a ledger
 pub data Step : Type 0 where
   -- a transaction carries out an operation at a place
   carry_out : TxnId → Place → Op → Step
   -- a Prepared of a transaction is appended to the log of a virtual node
   prepare : ℕ → TxnId → Step
-  -- a Decide
+  -- a Decide is appended
   decide : ℕ → TxnId → Step
   -- a transaction joins the history
   join : TxnId → Step
-  -- a compensation
+  -- a compensation is appended
   undo : ℕ → LogRec → Step
-  -- an End, committed or not
+  -- an End is appended, with commit or without
   finish : ℕ → TxnId → Bool → Step
   -- the log of a virtual node loses its last records, and these are left
   cut : ℕ → List LogEntry → Step
 
--- the log with one more record, under the next number
+-- the log with one more record, which has the next number
 abbrev pub log_with : List LogEntry → LogRec → List LogEntry
 log_with log content = log ++ record { number = length log + 1; content = content } ∷ []
 
@@ -60,11 +61,11 @@ operation_now ledger place op = record { place = place; op = op; outcome = Some 
 abbrev pub record_now : Ledger → TxnId → Place → Op → Option LogRec
 record_now ledger txn place op = record_of txn place op (stored_at ledger place) (lock_at ledger txn place)
 
--- with this log at the virtual node
+-- the ledger with this log at the virtual node
 abbrev pub with_log : Ledger → ℕ → List LogEntry → Ledger
 with_log ledger v log = record { on = ledger.on; logs = logs_with ledger.logs v log; history = ledger.history; done = ledger.done }
 
--- with the operation carried out
+-- the ledger with the operation carried out
 abbrev pub with_operation : Ledger → TxnId → Place → Op → Ledger
 with_operation ledger txn place op = record {
   on = ledger.on;
@@ -73,7 +74,7 @@ with_operation ledger txn place op = record {
   done = done_with ledger.done txn (operation_now ledger place op);
 }
 
--- with one more member
+-- the ledger with one more member of the history
 abbrev pub with_member : Ledger → TxnId → Ledger
 with_member ledger txn = record { on = ledger.on; logs = ledger.logs; history = ledger.history ++ txn ∷ []; done = ledger.done }
 
@@ -87,31 +88,31 @@ after_step ledger (undo v content) = with_log ledger v (log_with (ledger.logs v)
 after_step ledger (finish v txn commit) = with_log ledger v (log_with (ledger.logs v) (End txn commit))
 after_step ledger (cut v front) = with_log ledger v front
 
--- an operation may be carried out: its transaction has not ended, and its lock is held already or free
+-- an operation may be carried out by a transaction that is no member and has not ended, where it holds the lock or the lock is free
 pub record MayCarryOut (ledger : Ledger) (txn : TxnId) (place : Place) (op : Op) : Type 0 where
   pub outside : is_among txn ledger.history ≡ false
   pub unended : has_ended (log_at ledger place) txn ≡ false
   pub free : is_held (lock_at ledger txn place) (mode_of op) ≡ false → (other : TxnId) → is_conflict (Some (mode_of op)) (lock_at ledger other place) ≡ true → other ≡ txn
 
--- a transaction may join: it is whole, and no member yet
+-- a transaction may join the history where it is whole, and no member yet
 pub record MayJoin (ledger : Ledger) (txn : TxnId) : Type 0 where
   pub outside : is_among txn ledger.history ≡ false
   pub whole : IsWhole ledger txn
 
--- a compensation may be appended: it undoes the first of the rest of a transaction that is no member and has not ended
+-- a compensation may be appended that undoes the first of the rest of a transaction that is no member and has not ended
 pub record MayUndo (ledger : Ledger) (v : ℕ) (content : LogRec) : Type 0 where
   pub outside : is_among (txn_of content) ledger.history ≡ false
   pub unended : has_ended (ledger.logs v) (txn_of content) ≡ false
   pub first : UndoesFirst (ledger.logs v) content
   pub carries : CarriesNumberBefore (ledger.logs v) (record { number = length (ledger.logs v) + 1; content = content })
 
--- an End may be appended: it says whether its transaction is a member, and leaves nothing to undo of one that is not
+-- an End may be appended that says whether its transaction is a member; of one that is none, nothing is left to undo
 pub record MayFinish (ledger : Ledger) (v : ℕ) (txn : TxnId) (commit : Bool) : Type 0 where
   pub member : is_among txn ledger.history ≡ commit
   pub unended : has_ended (ledger.logs v) txn ≡ false
   pub undone : commit ≡ false → rest_to_undo (ledger.logs v) txn ≡ []
 
--- an end may be lost: of members nothing is lost but Ends
+-- an end of a log may be lost that has nothing of members but Ends
 pub record MayCut (ledger : Ledger) (v : ℕ) (front : List LogEntry) : Type 0 where
   pub lost : List LogEntry
   pub whole : ledger.logs v ≡ front ++ lost
@@ -127,11 +128,11 @@ IsEnabled ledger (undo v content) = MayUndo ledger v content
 IsEnabled ledger (finish v txn commit) = MayFinish ledger v txn commit
 IsEnabled ledger (cut v front) = MayCut ledger v front
 
--- of the transaction nothing is lost
+-- no record of the transaction is lost
 abbrev pub LosesNothingOf : TxnId → List LogEntry → List LogEntry → Type 0
 LosesNothingOf txn log front = (lost : List LogEntry) → log ≡ front ++ lost → EachAfter (λ _ entry. is_of txn entry.content ≡ false) [] lost
 
--- the step does not concern what the transaction has on the virtual node
+-- the step spares what the transaction has on the virtual node
 abbrev pub IsSpared : Ledger → Step → TxnId → ℕ → Type 0
 IsSpared ledger (carry_out actor place op) txn v = Unit {0}
 IsSpared ledger (prepare u actor) txn v = Unit {0}
