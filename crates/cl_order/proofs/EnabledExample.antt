@@ -23,7 +23,8 @@ use Rattle.cl_log.proofs.Unended.{is_among-unended_of}
 use Rattle.cl_order.specs.Ledger.{Ledger, IsOrdered, IsWholeOn}
 use Rattle.cl_order.specs.Steps.{Step, carry_out, prepare, decide, join, undo, finish, after_step, after_steps, new_ledger, AreEnabled, IsEnabled, MayCarryOut, MayJoin}
 use Rattle.cl_order.proofs.Examples.{first_txn, second_txn, third_txn, a, b, one_log, steps_on_one, on_one}
-use Rattle.cl_order.proofs.LawLemmas.{new_ordered, whole_without_operations, whole_on_each, operations_keep_order, prepared_keeps_order, decide_keeps_order, steps_make_order}
+use Rattle.cl_order.proofs.LawLemmas.{new_ordered, operations_keep_order, prepared_keeps_order, decide_keeps_order, steps_make_order}
+use Rattle.cl_order.proofs.Readings.{whole_without_operations, whole_on_each}
 
 -- what an open transaction may have there
 abbrev agrees : TxnId → Mode → List LogEntry → Place → TxnId → Bool

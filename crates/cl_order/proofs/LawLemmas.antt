@@ -1,23 +1,13 @@
 -- The laws of ledgers.
-use Rattle.std.proofs.Common.{◌≡◌, ℕ, Bool, true, false, subst, List, [], ◌∷◌, ◌++◌, sym, ◌∙◌}
+use Rattle.std.proofs.Common.{◌≡◌, ℕ, Bool, true, false, List, [], ◌∷◌}
 use Rattle.std.specs.List.{IsDistinct}
-use Rattle.std.specs.Prelude.{slice_index_or}
-use Rattle.std.proofs.lemmas.List.Sums.{fold-append}
-use Rattle.std.proofs.lemmas.List.Elements.{All-weaker}
 use Rattle.cl_types.specs.Places.{Place}
 use Rattle.cl_types.specs.Transactions.{same_txn}
-use Rattle.cl_log.specs.Locks.{strongest_mode}
-use Rattle.cl_log.specs.Open.{has_ended}
-use Rattle.cl_log.proofs.Beginnings.{settled-beginning}
-use Rattle.cl_log.proofs.Settled.{settled-nil, settled_at-free}
-use Rattle.cl_serial.specs.PlainMap.{Operation, no_values, RepliesAgree}
-use Rattle.cl_order.specs.Ledger.{Ledger, log_at, lock_at, values_of, IsOrdered}
-use Rattle.cl_order.specs.Laws.{OperationsKeepOrder, PreparedKeepsOrder, DecideKeepsOrder, JoiningKeepsOrder, UndoKeepsOrder, EndKeepsOrder, CutKeepsOrder, StepsKeepOrder, SparedStayWhole, StepsMakeOrder, StepsGoOn, WholeReplays, WholeOnEach, WholeWithoutOperations, MembersHoldLocks, HoldersAsked, StoreIsMap, BeginningsSettleAlike}
-use Rattle.cl_order.specs.Operations.{mode_of, is_held}
+use Rattle.cl_log.proofs.Settled.{settled-nil}
+use Rattle.cl_serial.specs.PlainMap.{no_values, RepliesAgree}
+use Rattle.cl_order.specs.Ledger.{Ledger, IsOrdered}
+use Rattle.cl_order.specs.Laws.{OperationsKeepOrder, PreparedKeepsOrder, DecideKeepsOrder, JoiningKeepsOrder, UndoKeepsOrder, EndKeepsOrder, CutKeepsOrder, StepsKeepOrder, StepsMakeOrder}
 use Rattle.cl_order.specs.Steps.{Step, carry_out, prepare, decide, join, undo, finish, cut, after_step, after_steps, AreEnabled, new_ledger}
-use Rattle.cl_order.proofs.Ledgers.{asked_where_locked, ordered_on, whole_from, whole_without, whole_everywhere, locked_where_strongest}
-use Rattle.cl_order.proofs.OneWhole.{IsWholeAt}
-use Rattle.cl_order.proofs.Replays.{agree_from_each}
 use Rattle.cl_order.proofs.StepLemmas.{prepare_ordered, prepare_whole, decide_ordered, decide_whole, finish_ordered, finish_whole, undo_ordered, undo_whole, cut_ordered, cut_whole, join_ordered, join_whole, operation_ordered, operation_whole}
 
 pub operations_keep_order : OperationsKeepOrder
@@ -99,51 +89,3 @@ ordered_after_steps ledger (step ∷ steps) ordered enabled = ordered_after_step
 
 pub steps_make_order : StepsMakeOrder
 steps_make_order on steps enabled = ordered_after_steps (new_ledger on) steps (new_ordered on) enabled
-
--- ---- what can be read off
-
-pub whole_replays : WholeReplays
-whole_replays ledger txn ordered whole =
-    agree_from_each (values_of ledger) (ledger.done txn) (λ place. (whole_everywhere ledger txn ordered whole place).agree)
-
-pub whole_on_each : WholeOnEach
-whole_on_each ledger txn ordered = (
-  λ whole v. whole_from ledger txn v (λ place here.
-      subst (λ u. IsWholeAt (ledger.logs u) txn place (values_of ledger place) (ledger.done txn)) here (whole_everywhere ledger txn ordered whole place)),
-  λ each k d below. each (ledger.on (slice_index_or (ledger.done txn) k d).place),
-)
-
-pub whole_without_operations : WholeWithoutOperations
-whole_without_operations ledger txn v ordered none =
-    whole_from ledger txn v (λ place here. whole_without ledger.done txn place (values_of ledger place) (ledger.logs v) (none place here) (ordered.for_operations v))
-
-pub members_hold_locks : MembersHoldLocks
-members_hold_locks ledger txn ordered member =
-    All-weaker
-    (λ (o : Operation). is_held (strongest_mode (log_at ledger o.place) txn o.place) (mode_of o.op) ≡ true)
-    (λ (o : Operation). has_ended (log_at ledger o.place) txn ≡ false → is_held (lock_at ledger txn o.place) (mode_of o.op) ≡ true)
-    (λ o held running. locked_where_strongest (log_at ledger o.place) txn o.place (mode_of o.op) held running) (ledger.done txn) (ordered.locked txn member)
-
-pub store_is_map : StoreIsMap
-store_is_map ledger place ordered members =
-    sym (settled_at-free (log_at ledger place) ledger.history place members) ∙ ordered.settles place
-
-pub beginnings_settle_alike : BeginningsSettleAlike
-beginnings_settle_alike ledger v front ordered may place here =
-    settled-beginning ledger.history (ledger.logs v) front may.lost 1 (ordered.numbered v) (ordered.lawful v) may.whole may.ends place
-    ∙ (ordered_on ledger ordered v).settles place here
-
-pub holders_asked : HoldersAsked
-holders_asked ledger txn place mode ordered holds = asked_where_locked ledger.done txn place (log_at ledger place) (ordered.for_operations (ledger.on place)) mode holds
-
-pub spared_stay_whole : SparedStayWhole
-spared_stay_whole ledger step txn ordered enabled spared whole =
-    let stays = steps_keep_order ledger step ordered enabled in
-    (whole_on_each (after_step ledger step) txn stays.ordered).1 (λ v. stays.whole txn v (spared v) ((whole_on_each ledger txn ordered).0 whole v))
-
-enabled_on : (ledger : Ledger) (steps more : List Step) → AreEnabled ledger steps → AreEnabled (after_steps ledger steps) more → AreEnabled ledger (steps ++ more)
-enabled_on ledger [] more h k = k
-enabled_on ledger (step ∷ steps) more h k = (h.0, enabled_on (after_step ledger step) steps more h.1 k)
-
-pub steps_go_on : StepsGoOn
-steps_go_on ledger steps more h k = (enabled_on ledger steps more h k, fold-append after_step ledger steps more)

@@ -7,5 +7,6 @@ pub mod OneWhole
 pub mod Ledgers
 pub mod StepLemmas
 pub mod LawLemmas
+pub mod Readings
 pub mod Examples
 pub mod EnabledExample

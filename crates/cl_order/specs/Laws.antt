@@ -9,7 +9,10 @@ use Rattle.cl_log.specs.declared.records.LogRec.{LogRec}
 use Rattle.cl_log.specs.LogEntry.{LogEntry}
 use Rattle.cl_log.specs.Open.{has_ended, is_among}
 use Rattle.cl_log.specs.Settled.{settled}
-use Rattle.cl_serial.specs.PlainMap.{RepliesAgree}
+use Rattle.cl_serial.specs.PlainMap.{operations, no_values, RepliesAgree}
+use Rattle.cl_serial.specs.Serial.{StandsAt, operations_of, values_after}
+use Rattle.cl_serial.specs.Transactions.{commands_of}
+use Rattle.cl_serial.specs.Transcript.{TranscriptEntry}
 use Rattle.cl_order.specs.Operations.{mode_of, is_held}
 use Rattle.cl_order.specs.Ledger.{Ledger, log_at, stored_at, lock_at, values_of, has_operation_at, asks_at, IsOrdered, IsWholeOn, IsWhole}
 use Rattle.cl_order.specs.Steps.{Step, carry_out, prepare, decide, join, undo, finish, cut, after_step, IsEnabled, MayCut, IsSpared, after_steps, AreEnabled, new_ledger}
@@ -68,6 +71,20 @@ StepsMakeOrder = (on : Place → ℕ) (steps : List Step) → AreEnabled (new_le
 abbrev pub StepsGoOn : Type 0
 StepsGoOn = (ledger : Ledger) (steps more : List Step) → AreEnabled ledger steps → AreEnabled (after_steps ledger steps) more →
     AreEnabled ledger (steps ++ more) × (after_steps ledger (steps ++ more) ≡ after_steps (after_steps ledger steps) more)
+
+-- no member stands at two positions of the history
+abbrev pub MembersStandOnce : Type 0
+MembersStandOnce = (ledger : Ledger) → IsOrdered ledger → (i j : ℕ) (name : TxnId) → StandsAt ledger.history i name → StandsAt ledger.history j name → i ≡ j
+
+-- the members have done what a transcript says of them
+abbrev pub IsToldBy : Ledger → List TranscriptEntry → Type 0
+IsToldBy ledger transcript = (name : TxnId) → is_among name ledger.history ≡ true → ledger.done name ≡ operations (commands_of transcript name)
+
+-- then the history replays with the replies of the transcript, and each place settles to the map that this makes
+abbrev pub HistoryReplays : Type 0
+HistoryReplays = (ledger : Ledger) (transcript : List TranscriptEntry) → IsOrdered ledger → IsToldBy ledger transcript →
+    RepliesAgree no_values (operations_of transcript ledger.history)
+    × ((place : Place) → settled (log_at ledger place) ledger.history place ≡ values_after transcript ledger.history place)
 
 -- the operations of a whole transaction, done on the map of the history, give the replies that were given
 abbrev pub WholeReplays : Type 0

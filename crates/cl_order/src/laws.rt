@@ -1,5 +1,5 @@
 //! What holds of ledgers. Each function does nothing: its contract is a law of the definitions.
-ghost use Rattle.cl_order.specs.Laws.{OperationsKeepOrder, PreparedKeepsOrder, DecideKeepsOrder, JoiningKeepsOrder, UndoKeepsOrder, EndKeepsOrder, CutKeepsOrder, StepsKeepOrder, SparedStayWhole, StepsMakeOrder, StepsGoOn, WholeReplays, WholeOnEach, WholeWithoutOperations, MembersHoldLocks, HoldersAsked, StoreIsMap, BeginningsSettleAlike};
+ghost use Rattle.cl_order.specs.Laws.{OperationsKeepOrder, PreparedKeepsOrder, DecideKeepsOrder, JoiningKeepsOrder, UndoKeepsOrder, EndKeepsOrder, CutKeepsOrder, StepsKeepOrder, SparedStayWhole, StepsMakeOrder, StepsGoOn, MembersStandOnce, HistoryReplays, WholeReplays, WholeOnEach, WholeWithoutOperations, MembersHoldLocks, HoldersAsked, StoreIsMap, BeginningsSettleAlike};
 
 /// An operation that is carried out under a lock that was held or free keeps a ledger ordered.
 /// Its transaction stays whole, and so does each other.
@@ -41,6 +41,13 @@ pub fn steps_make_order()
     ensures spared { SparedStayWhole }
     ensures all { StepsMakeOrder }
     ensures more { StepsGoOn }
+{}
+
+/// The members of the history differ. Where they have done what a transcript says, the history
+/// replays with its replies, and each place settles to the map that this makes.
+pub fn history_replays()
+    ensures once { MembersStandOnce }
+    ensures replays { HistoryReplays }
 {}
 
 /// The operations of a whole transaction, done on the map of the history, give the replies that

@@ -8,7 +8,7 @@
 mod laws;
 
 pub use laws::{
-    beginnings_settle_alike, cut_keeps_order, end_keeps_order, joining_keeps_order,
-    marks_keep_order, members_hold_locks, operations_keep_order, steps_make_order, store_is_map,
-    undo_keeps_order, whole_transactions_replay,
+    beginnings_settle_alike, cut_keeps_order, end_keeps_order, history_replays,
+    joining_keeps_order, marks_keep_order, members_hold_locks, operations_keep_order,
+    steps_make_order, store_is_map, undo_keeps_order, whole_transactions_replay,
 };

@@ -1,4 +1,4 @@
-use Rattle.cl_order.proofs.LawLemmas.{beginnings_settle_alike}
+use Rattle.cl_order.proofs.Readings.{beginnings_settle_alike}
 use Rattle.cl_order.proofs.laws.beginnings_settle_alike.Goals as goal
 
 pub returns : goal.returns

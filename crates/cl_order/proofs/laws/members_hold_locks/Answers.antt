@@ -1,4 +1,4 @@
-use Rattle.cl_order.proofs.LawLemmas.{members_hold_locks, holders_asked}
+use Rattle.cl_order.proofs.Readings.{members_hold_locks, holders_asked}
 use Rattle.cl_order.proofs.laws.members_hold_locks.Goals as goal
 
 pub returns-clause-members : goal.returns-clause-members

@@ -1,4 +1,5 @@
-use Rattle.cl_order.proofs.LawLemmas.{steps_keep_order, spared_stay_whole, steps_make_order, steps_go_on}
+use Rattle.cl_order.proofs.LawLemmas.{steps_keep_order, steps_make_order}
+use Rattle.cl_order.proofs.Readings.{spared_stay_whole, steps_go_on}
 use Rattle.cl_order.proofs.laws.steps_make_order.Goals as goal
 
 pub returns-clause-each : goal.returns-clause-each

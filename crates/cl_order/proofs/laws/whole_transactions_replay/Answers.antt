@@ -1,4 +1,4 @@
-use Rattle.cl_order.proofs.LawLemmas.{whole_replays, whole_on_each, whole_without_operations}
+use Rattle.cl_order.proofs.Readings.{whole_replays, whole_on_each, whole_without_operations}
 use Rattle.cl_order.proofs.laws.whole_transactions_replay.Goals as goal
 
 pub returns-clause-replays : goal.returns-clause-replays
