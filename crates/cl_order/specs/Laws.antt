@@ -19,10 +19,12 @@ use Rattle.cl_order.specs.Steps.{Step, carry_out, prepare, decide, join, undo, f
 
 -- after the step the ledger is ordered, and each transaction that it spares is as whole as it was
 pub record StaysOrdered (ledger : Ledger) (step : Step) : Type 0 where
+  -- the ledger is ordered
   pub ordered : IsOrdered (after_step ledger step)
+  -- whoever was whole on a virtual node and is spared there is whole there
   pub whole : (txn : TxnId) (v : ℕ) → IsSpared ledger step txn v → IsWholeOn ledger txn v → IsWholeOn (after_step ledger step) txn v
 
--- on an ordered ledger an enabled step does so
+-- the step, where it is enabled, keeps an ordered ledger ordered, and whoever it spares whole
 abbrev pub KeepsOrder : Ledger → Step → Type 0
 KeepsOrder ledger step = IsOrdered ledger → IsEnabled ledger step → StaysOrdered ledger step
 
@@ -30,11 +32,11 @@ KeepsOrder ledger step = IsOrdered ledger → IsEnabled ledger step → StaysOrd
 abbrev pub OperationsKeepOrder : Type 0
 OperationsKeepOrder = (ledger : Ledger) (txn : TxnId) (place : Place) (op : Op) → KeepsOrder ledger (carry_out txn place op)
 
--- so does a Prepared
+-- a Prepared keeps order, and leaves all transactions whole
 abbrev pub PreparedKeepsOrder : Type 0
 PreparedKeepsOrder = (ledger : Ledger) (v : ℕ) (txn : TxnId) → KeepsOrder ledger (prepare v txn)
 
--- and a Decide
+-- a Decide keeps order, and leaves all transactions whole
 abbrev pub DecideKeepsOrder : Type 0
 DecideKeepsOrder = (ledger : Ledger) (v : ℕ) (txn : TxnId) → KeepsOrder ledger (decide v txn)
 
@@ -42,11 +44,11 @@ DecideKeepsOrder = (ledger : Ledger) (v : ℕ) (txn : TxnId) → KeepsOrder ledg
 abbrev pub JoiningKeepsOrder : Type 0
 JoiningKeepsOrder = (ledger : Ledger) (txn : TxnId) → KeepsOrder ledger (join txn)
 
--- so does an undo step
+-- an undo step keeps order, and leaves the other transactions whole
 abbrev pub UndoKeepsOrder : Type 0
 UndoKeepsOrder = (ledger : Ledger) (v : ℕ) (content : LogRec) → KeepsOrder ledger (undo v content)
 
--- and an End
+-- an End keeps order, and leaves the other transactions whole
 abbrev pub EndKeepsOrder : Type 0
 EndKeepsOrder = (ledger : Ledger) (v : ℕ) (txn : TxnId) (commit : Bool) → KeepsOrder ledger (finish v txn commit)
 
@@ -54,7 +56,7 @@ EndKeepsOrder = (ledger : Ledger) (v : ℕ) (txn : TxnId) (commit : Bool) → Ke
 abbrev pub CutKeepsOrder : Type 0
 CutKeepsOrder = (ledger : Ledger) (v : ℕ) (front : List LogEntry) → KeepsOrder ledger (cut v front)
 
--- each of these steps
+-- each step keeps order, and leaves whole whoever it spares
 abbrev pub StepsKeepOrder : Type 0
 StepsKeepOrder = (ledger : Ledger) (step : Step) → KeepsOrder ledger step
 
@@ -80,7 +82,7 @@ MembersStandOnce = (ledger : Ledger) → IsOrdered ledger → (i j : ℕ) (name 
 abbrev pub IsToldBy : Ledger → List TranscriptEntry → Type 0
 IsToldBy ledger transcript = (name : TxnId) → is_among name ledger.history ≡ true → ledger.done name ≡ operations (commands_of transcript name)
 
--- then the history replays with the replies of the transcript, and each place settles to the map that this makes
+-- where a transcript tells what the members have done, the history replays with its replies, and each place settles to the map that this makes
 abbrev pub HistoryReplays : Type 0
 HistoryReplays = (ledger : Ledger) (transcript : List TranscriptEntry) → IsOrdered ledger → IsToldBy ledger transcript →
     RepliesAgree no_values (operations_of transcript ledger.history)
@@ -94,7 +96,7 @@ WholeReplays = (ledger : Ledger) (txn : TxnId) → IsOrdered ledger → IsWhole 
 abbrev pub WholeOnEach : Type 0
 WholeOnEach = (ledger : Ledger) (txn : TxnId) → IsOrdered ledger → (IsWhole ledger txn ↔ ((v : ℕ) → IsWholeOn ledger txn v))
 
--- it is whole on a virtual node where it has no operation
+-- a transaction is whole on a virtual node where it has no operation
 abbrev pub WholeWithoutOperations : Type 0
 WholeWithoutOperations = (ledger : Ledger) (txn : TxnId) (v : ℕ) → IsOrdered ledger →
     ((place : Place) → ledger.on place ≡ v → has_operation_at (ledger.done txn) place ≡ false) → IsWholeOn ledger txn v

@@ -25,21 +25,21 @@ is_held (Some Exclusive) mode = true
 is_held (Some Shared) Shared = true
 is_held (Some Shared) Exclusive = false
 
--- a lock without a write, where the transaction does not hold it yet
+-- a Touch, where the transaction does not hold the lock yet
 abbrev pub touch_of : TxnId → Place → Option Mode → Mode → Option LogRec
 touch_of txn place held mode = if is_held held mode then None else Some (Touch txn place.0 place.1 mode)
 
--- the removal of a value, where there is one
+-- the record of a removal: a Set without a value where there is one, a Touch where there is none
 abbrev pub removal_of : TxnId → Place → ℕ → Option (List ℕ) → Option Mode → Option LogRec
 removal_of txn place before None held = touch_of txn place held Exclusive
 removal_of txn place before (Some x) held = Some (Set txn place.0 place.1 before (Some x) None)
 
--- an addition: the sum is a whole value where there was none
+-- the record of a sum: a Set where there was no value, an Add where there was one
 abbrev pub sum_of : TxnId → Place → ℕ → Option (List ℕ) → ℤ → ℤ → LogRec
 sum_of txn place before None amount sum = Set txn place.0 place.1 before None (Some (signed_decimal sum))
 sum_of txn place before (Some x) amount sum = Add txn place.0 place.1 before amount
 
--- an addition by its reply: only a sum is written
+-- the record of an addition, by its reply: that of a sum, and a Touch where there is none
 abbrev pub addition_of : TxnId → Place → Stored → ℤ → Reply → Option Mode → Option LogRec
 addition_of txn place stored amount (Sum sum) held = Some (sum_of txn place stored.0 stored.1 amount sum)
 addition_of txn place stored amount reply held = touch_of txn place held Exclusive

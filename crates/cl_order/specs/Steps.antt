@@ -40,7 +40,7 @@ pub data Step : Type 0 where
 abbrev pub log_with : List LogEntry → LogRec → List LogEntry
 log_with log content = log ++ record { number = length log + 1; content = content } ∷ []
 
--- the same, where there is a record
+-- the log with one more record, where there is one
 abbrev pub log_with_optional : List LogEntry → Option LogRec → List LogEntry
 log_with_optional log None = log
 log_with_optional log (Some content) = log_with log content
@@ -49,15 +49,15 @@ log_with_optional log (Some content) = log_with log content
 abbrev pub logs_with : (ℕ → List LogEntry) → ℕ → List LogEntry → ℕ → List LogEntry
 logs_with logs v log u = if u == v then log else logs u
 
--- the operations, with one more of the transaction
+-- the operations of each transaction, with one more of this one
 abbrev pub done_with : (TxnId → List Operation) → TxnId → Operation → TxnId → List Operation
 done_with done txn operation other = if same_txn other txn then done other ++ operation ∷ [] else done other
 
--- the operation with the reply that it has now
+-- the operation at the place, with the reply of the plain one on the value in the store
 abbrev pub operation_now : Ledger → Place → Op → Operation
 operation_now ledger place op = record { place = place; op = op; outcome = Some (Done (plain_reply op (stored_at ledger place).1)) }
 
--- the record that it leaves now
+-- the record that the operation leaves, by the store and the transaction's lock
 abbrev pub record_now : Ledger → TxnId → Place → Op → Option LogRec
 record_now ledger txn place op = record_of txn place op (stored_at ledger place) (lock_at ledger txn place)
 
@@ -90,32 +90,47 @@ after_step ledger (cut v front) = with_log ledger v front
 
 -- an operation may be carried out by a transaction that is no member and has not ended, where it holds the lock or the lock is free
 pub record MayCarryOut (ledger : Ledger) (txn : TxnId) (place : Place) (op : Op) : Type 0 where
+  -- the transaction is no member
   pub outside : is_among txn ledger.history ≡ false
+  -- it has not ended
   pub unended : has_ended (log_at ledger place) txn ≡ false
+  -- it holds the lock, or no other transaction holds one that conflicts
   pub free : is_held (lock_at ledger txn place) (mode_of op) ≡ false → (other : TxnId) → is_conflict (Some (mode_of op)) (lock_at ledger other place) ≡ true → other ≡ txn
 
 -- a transaction may join the history where it is whole, and no member yet
 pub record MayJoin (ledger : Ledger) (txn : TxnId) : Type 0 where
+  -- the transaction is no member
   pub outside : is_among txn ledger.history ≡ false
+  -- it is whole
   pub whole : IsWhole ledger txn
 
 -- a compensation may be appended that undoes the first of the rest of a transaction that is no member and has not ended
 pub record MayUndo (ledger : Ledger) (v : ℕ) (content : LogRec) : Type 0 where
+  -- the transaction is no member
   pub outside : is_among (txn_of content) ledger.history ≡ false
+  -- it has not ended
   pub unended : has_ended (ledger.logs v) (txn_of content) ≡ false
+  -- the record undoes the first of its rest
   pub first : UndoesFirst (ledger.logs v) content
+  -- and carries the state number that its place has
   pub carries : CarriesNumberBefore (ledger.logs v) (record { number = length (ledger.logs v) + 1; content = content })
 
 -- an End may be appended that says whether its transaction is a member; of one that is none, nothing is left to undo
 pub record MayFinish (ledger : Ledger) (v : ℕ) (txn : TxnId) (commit : Bool) : Type 0 where
+  -- the End is with commit exactly where the transaction is a member
   pub member : is_among txn ledger.history ≡ commit
+  -- it has not ended
   pub unended : has_ended (ledger.logs v) txn ≡ false
+  -- without commit, nothing is left to undo
   pub undone : commit ≡ false → rest_to_undo (ledger.logs v) txn ≡ []
 
 -- an end of a log may be lost that has nothing of members but Ends
 pub record MayCut (ledger : Ledger) (v : ℕ) (front : List LogEntry) : Type 0 where
+  -- the records that are lost
   pub lost : List LogEntry
+  -- they stand after those that are left
   pub whole : ledger.logs v ≡ front ++ lost
+  -- those of members are Ends
   pub ends : LosesEndsOfMembers ledger.history lost
 
 -- what a step needs
@@ -132,7 +147,7 @@ IsEnabled ledger (cut v front) = MayCut ledger v front
 abbrev pub LosesNothingOf : TxnId → List LogEntry → List LogEntry → Type 0
 LosesNothingOf txn log front = (lost : List LogEntry) → log ≡ front ++ lost → EachAfter (λ _ entry. is_of txn entry.content ≡ false) [] lost
 
--- the step spares what the transaction has on the virtual node
+-- the step leaves what the transaction has on the virtual node: another's join, undo step or End does, and a cut that loses nothing of it
 abbrev pub IsSpared : Ledger → Step → TxnId → ℕ → Type 0
 IsSpared ledger (carry_out actor place op) txn v = Unit {0}
 IsSpared ledger (prepare u actor) txn v = Unit {0}
