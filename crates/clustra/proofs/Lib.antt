@@ -13,3 +13,4 @@ pub mod Asked
 pub mod FedLines
 pub mod Inputs
 pub mod Runs
+pub mod Ran

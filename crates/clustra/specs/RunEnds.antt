@@ -1,9 +1,9 @@
--- How a run ends: what it did with its source and its sink, and what is kept of it. No public clause cites this module.
-use Rattle.std.specs.Prelude.{◌≡◌, ℕ, ◌≤◌, ◌⊎◌, List, Option}
+-- How a run ends: what it did with its source and its sink, and what is kept of it. The top call says the same, clause by clause.
+use Rattle.std.specs.Prelude.{◌≡◌, ℕ, ◌≤◌, ◌⊎◌, List, [], Option}
 use Rattle.std.specs.Io.KnownBytes.{IsAtEnd}
 use Rattle.cl_types.specs.declared.operations.TxnId.{TxnId}
 use Rattle.cl_io.specs.Faults.{one_more}
-use Rattle.cl_serial.specs.Transcript.{TranscriptEntry}
+use Rattle.cl_serial.specs.Transcript.{TranscriptEntry, full_text}
 use Rattle.cl_serial.specs.Serial.{Serializable, EveryLineAnswered}
 use Rattle.clustra.specs.Run.{ReadsInput, OpenRepliesAgree, NeverAborts, WritesText, WritesAll}
 use Rattle.clustra.specs.declared.ended.TheConstants.{DONE, READ_FAULT, WRITE_FAULT, TOO_MUCH_INPUT, NO_MEMORY}
@@ -44,3 +44,17 @@ pub record EndsSink {K : Type 0} (written_of flushed_of : K → Option (List ℕ
   pub write_fault : status ≡ WRITE_FAULT → faults_of after ≡ one_more (faults_of before)
   pub unfaulted : (status ≡ WRITE_FAULT → ⊥) → faults_of after ≡ faults_of before
   pub counted : faults_of before ≤ faults_of after
+
+-- a run that ended with this status: its transcript and its history explain what it read and wrote
+pub record Ran {S K : Type 0} (left_of : S → Option (List ℕ)) (source_faults : S → ℕ) (written_of flushed_of : K → Option (List ℕ)) (sink_faults : K → ℕ)
+    (source_before source_after : S) (sink_before sink_after : K) (status : ℕ) : Type 0 where
+  pub transcript : List TranscriptEntry
+  pub history : List TxnId
+  -- the history explains the transcript
+  pub explained : Explains transcript history
+  -- after a read that failed and after too much input nothing was fed
+  pub nothing_fed : (status ≡ READ_FAULT) ⊎ (status ≡ TOO_MUCH_INPUT) → (transcript ≡ []) × (history ≡ [])
+  -- the transcript is of the lines that were read
+  pub source_ends : EndsSource left_of source_faults source_before source_after status transcript
+  -- and its text is what was written
+  pub sink_ends : EndsSink written_of flushed_of sink_faults sink_before sink_after status (full_text transcript)

@@ -1,13 +1,11 @@
 //! The server's program.
 #![tactic(auto)]
 
-ghost use Rattle.std.specs.Prelude.{◌≡◌, ◌⊎◌, ◌↔◌, List};
-ghost use Rattle.std.specs.Io.KnownBytes.{IsAtEnd};
+ghost use Rattle.std.specs.Prelude.{◌≡◌, ◌⊎◌, ◌↔◌};
 ghost use Rattle.std.specs.IoError.{error_kind};
 ghost use Rattle.std.specs.Process.{exit_status};
-ghost use Rattle.cl_io.specs.Faults.{one_more};
-ghost use Rattle.cl_serial.specs.Transcript.{TranscriptEntry};
-ghost use Rattle.clustra.specs.Run.{IsStatus, ReadsInput};
+ghost use Rattle.clustra.specs.Run.{IsStatus};
+ghost use Rattle.clustra.specs.RunEnds.{Ran};
 
 mod call;
 mod ended;
@@ -22,7 +20,7 @@ mod tests;
 
 use call::clustra;
 use cl_io::{NoGate, Sink, Source, StdSink, StdSource};
-use ended::{DONE, NO_MEMORY, READ_FAULT, USAGE, WRITE_FAULT};
+use ended::{NO_MEMORY, USAGE};
 use std::alloc::{AllocError, AllocGlobal};
 use std::env::{self, Env};
 use std::io::{self, ErrorKind};
@@ -57,15 +55,13 @@ fn run_program<R: Threads + Wait + Sync + Env + AllocGlobal, S: Source, K: Sink>
     sink: &mut K,
 ) -> ExitCode
     ensures status { IsStatus (exit_status result) }
+
+    // Words that are no command are refused, and then nothing is read or written.
     ensures usage { exit_status result ≡ USAGE → (source.new ≡ source.old) × (sink.new ≡ sink.old) }
-    ensures read { (exit_status result ≡ USAGE → ⊥) → (transcript : List TranscriptEntry)
-        × ReadsInput (exit_status result) (S.left source.old) (S.left source.new) transcript }
-    ensures end { exit_status result ≡ DONE → IsAtEnd (S.left source.new) }
-    ensures flushed { exit_status result ≡ DONE → K.flushed sink.new ≡ K.written sink.new }
-    ensures read_fault { exit_status result ≡ READ_FAULT → S.faults source.new ≡ one_more (S.faults source.old) }
-    ensures write_fault { exit_status result ≡ WRITE_FAULT → K.faults sink.new ≡ one_more (K.faults sink.old) }
-    ensures read_unfaulted { (exit_status result ≡ READ_FAULT → ⊥) → S.faults source.new ≡ S.faults source.old }
-    ensures write_unfaulted { (exit_status result ≡ WRITE_FAULT → ⊥) → K.faults sink.new ≡ K.faults sink.old }
+
+    // At every other status all that the top call promises holds of the exit status, for some transcript and history.
+    ensures ran { (exit_status result ≡ USAGE → ⊥)
+        → Ran S.left S.faults K.written K.flushed K.faults source.old source.new sink.old sink.new (exit_status result) }
 {
     match words_of(rt) {
         Ok(words) => {

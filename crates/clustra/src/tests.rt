@@ -1,8 +1,7 @@
 use crate::call::clustra;
 use crate::ended::{DONE, NO_MEMORY, READ_FAULT, TOO_MUCH_INPUT, USAGE, WRITE_FAULT};
-use crate::limits::{BYTES_MAX, LINES_MAX};
 use cl_io::{MemSink, MemSource, NoGate};
-use cl_types::{NoMemory, OPERATIONS_MAX};
+use cl_types::NoMemory;
 use std::alloc::{AllocError, Global};
 use std::sync::Wait;
 use std::test::Fail;
@@ -139,7 +138,7 @@ fn a_failed_allocation_has_its_status(rt: HostRuntime) -> Result<(), Fail> {
 
 #[test]
 fn an_operation_too_many_is_refused(rt: HostRuntime) -> Result<(), Fail> {
-    let most = OPERATIONS_MAX as usize;
+    let most = 64;
     let mut input = Vec::from_slice(rt.alloc(), b"1 BEGIN\n")?;
     input.extend_from_slice(&repeated(rt.alloc(), b"1 GET t a\n", most + 1)?)?;
     input.extend_from_slice(b"1 COMMIT")?;
@@ -157,8 +156,8 @@ fn an_operation_too_many_is_refused(rt: HostRuntime) -> Result<(), Fail> {
 
 #[test]
 fn input_past_the_limits_is_refused(rt: HostRuntime) -> Result<(), Fail> {
-    let lines = repeated(rt.alloc(), b"1 GET t a\n", LINES_MAX + 1)?;
-    let bytes = repeated(rt.alloc(), b"xxxxxxxxxx", BYTES_MAX / 10 + 1)?;
+    let lines = repeated(rt.alloc(), b"1 GET t a\n", 100_001)?;
+    let bytes = repeated(rt.alloc(), b"xxxxxxxxxx", 2_570_001)?;
     for (name, input) in [("lines", lines.as_slice()), ("bytes", bytes.as_slice())] {
         let case = Case {
             status: TOO_MUCH_INPUT,

@@ -1,26 +1,17 @@
--- What was read, by what is kept; and nothing where the words could not be had.
-use Rattle.std.proofs.Common.{◌≡◌, ◌∙◌, ℕ, inl, inr, List, [], Option, Some, None, IsSome, sym, subst}
-use Rattle.std.specs.Prelude.{IfSome}
-use Rattle.cl_serial.specs.Transcript.{TranscriptEntry, transcript_of}
-use Rattle.clustra.specs.Run.{ReadsInput}
-use Rattle.clustra.specs.declared.ended.Kept.{Kept}
-use Rattle.clustra.proofs.Runs.{ReadsInput-nothing}
+-- What is kept says what was done; and nothing was where an allocation failed before the words could be had.
+use Rattle.std.proofs.Common.{◌≡◌, ◌∙◌, inl, inr}
+use Rattle.clustra.proofs.Ran.{Ran-nothing, Ran-kept}
 use Rattle.clustra.proofs.run_program.Goals as goal
 
-of_kept : (kept : Option Kept) (code status : ℕ) (before after : Option (List ℕ)) → code ≡ status → IsSome kept → IfSome kept (λ k. ReadsInput status before after (transcript_of k.transcript)) →
-    (transcript : List TranscriptEntry) × ReadsInput code before after transcript
-of_kept None code status before after same some h = absurd (cc)
-of_kept (Some k) code status before after same some h =
-    let P : ℕ → Type 0 = λ n. ReadsInput n before after (transcript_of k.transcript) in
-    (transcript_of k.transcript, subst P (sym same) h)
+pub returns-in-Ok-clause-ran : goal.returns-in-Ok-clause-ran
+returns-in-Ok-clause-ran g c = λ begun.
+    let h = c.clustra-ended.ensures in
+    Ran-kept _ _ _ _ _ _ _ _ _ c.clustra-ended.result.kept _ _ c.from.ensures (h.kept (λ usage. begun (c.from.ensures ∙ usage))) h.serializable h.open_replies h.unaborted h.answered h.nothing_fed h.read h.written h.all
+    h.unwritten h.flushed h.end h.read_fault h.write_fault h.read_unfaulted h.write_unfaulted h.counted
 
-pub returns-in-Ok-clause-read : goal.returns-in-Ok-clause-read
-returns-in-Ok-clause-read g c = λ begun.
-    of_kept c.clustra-ended.result.kept _ _ _ _ c.from.ensures (c.clustra-ended.ensures.kept (λ usage. begun (c.from.ensures ∙ usage))) c.clustra-ended.ensures.read
-
-pub returns-in-Err-clause-read : goal.returns-in-Err-clause-read
-returns-in-Err-clause-read g c = λ begun.
+pub returns-in-Err-clause-ran : goal.returns-in-Err-clause-ran
+returns-in-Err-clause-ran g c = λ begun.
     elim c.status_of_words.ensures.status [
-      | inl none ↦ ([], ReadsInput-nothing _ _ (c.from-in-Err.ensures ∙ none))
+      | inl none ↦ Ran-nothing _ _ _ _ _ _ _ _ (c.from-in-Err.ensures ∙ none)
       | inr usage ↦ absurd (begun (c.from-in-Err.ensures ∙ usage))
     ]
