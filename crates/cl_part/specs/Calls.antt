@@ -1,0 +1,78 @@
+-- What each call of a participant answers, and the state that it leaves.
+use Rattle.std.specs.Prelude.{Bool, true, false, List, [], ◌∷◌, Option, Some, None}
+use Rattle.cl_types.specs.declared.answers.Answer.{Answer}
+use Rattle.cl_types.specs.declared.answers.Answer.TheVariants.{Done, Refused}
+use Rattle.cl_types.specs.declared.answers.Reply.{Reply}
+use Rattle.cl_types.specs.declared.operations.Op.{Op}
+use Rattle.cl_types.specs.declared.operations.TxnId.{TxnId}
+use Rattle.cl_types.specs.Places.{Place}
+use Rattle.cl_types.specs.Plain.{plain_reply}
+use Rattle.cl_log.specs.declared.records.LogRec.{LogRec}
+use Rattle.cl_log.specs.declared.records.LogRec.TheVariants.{Set, Add, Prepared, End}
+use Rattle.cl_log.specs.LogEntry.{LogEntry}
+use Rattle.cl_log.specs.Rest.{rest_to_undo, undo_of}
+use Rattle.cl_locks.specs.Grants.{first_conflict, mode_held}
+use Rattle.cl_order.specs.Operations.{mode_of, record_of}
+use Rattle.cl_part.specs.State.{State, after_record, after_optional}
+
+-- ---- an operation
+
+-- the transaction that refuses an operation: the first, in order of grant, that holds a lock in conflict
+abbrev pub refusing : State → TxnId → Place → Op → Option TxnId
+refusing state txn place op = first_conflict state.grants txn place (mode_of op)
+
+abbrev pub answer_by : Option TxnId → Reply → Answer
+answer_by None reply = Done reply
+answer_by (Some holder) reply = Refused holder
+
+-- the answer: the plain operation's reply on the stored value, where no transaction refuses it
+unfoldable pub answer_to : State → TxnId → Place → Op → Answer
+answer_to state txn place op = answer_by (refusing state txn place op) (plain_reply op (state.stored place).1)
+
+-- the record that the operation leaves, if any
+abbrev pub record_left : State → TxnId → Place → Op → Option LogRec
+record_left state txn place op = record_of txn place op (state.stored place) (mode_held state.grants txn place)
+
+abbrev pub after_asked : Option TxnId → State → Option LogRec → State
+after_asked None state content = after_optional state content
+after_asked (Some holder) state content = state
+
+-- an operation that is refused changes nothing
+unfoldable pub after_op : State → TxnId → Place → Op → State
+after_op state txn place op = after_asked (refusing state txn place op) state (record_left state txn place op)
+
+-- ---- the vote, and the end
+
+unfoldable pub after_prepare : State → TxnId → State
+after_prepare state txn = after_record state (Prepared txn)
+
+unfoldable pub after_end : State → TxnId → Bool → State
+after_end state txn commit = after_record state (End txn commit)
+
+-- ---- rollback
+
+-- the place of a Set or an Add
+abbrev pub place_of : LogRec → Place
+place_of (Set txn table key before old new) = (table, key)
+place_of (Add txn table key before amount) = (table, key)
+place_of content = ([], [])
+
+-- the compensation that undoes a write now
+abbrev pub undo_now : State → LogEntry → LogRec
+undo_now state entry = undo_of entry.content entry.number (state.stored (place_of entry.content)).0
+
+abbrev pub after_undoing : State → List LogEntry → State
+after_undoing state [] = state
+after_undoing state (first ∷ others) = after_record state (undo_now state first)
+
+-- the first of the transaction's rest is undone, where there is one
+unfoldable pub after_undo : State → TxnId → State
+after_undo state txn = after_undoing state (rest_to_undo state.log txn)
+
+abbrev pub is_any : List LogEntry → Bool
+is_any [] = false
+is_any (entry ∷ entries) = true
+
+-- whether something of the transaction is left to undo
+unfoldable pub has_rest : List LogEntry → TxnId → Bool
+has_rest log txn = is_any (rest_to_undo log txn)

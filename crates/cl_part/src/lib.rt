@@ -1,0 +1,8 @@
+//! A participant: the operations, the vote, the rollback and the end of transactions at the primary
+//! of a virtual node.
+#![tactic(auto)]
+
+mod part;
+
+pub use cl_types::Answer;
+pub use part::Part;
