@@ -1,17 +1,15 @@
 -- What a call did, and the state that it leaves.
-use Rattle.std.proofs.Common.{◌≡◌, ◌+◌, ◌<◌, ◌≤◌, ◌⊎◌, Bool, true, false, cond, eqb, ◌&&◌, List, [], ◌∷◌, ◌++◌, refl, sym, ap, ◌∙◌, subst, inl, inr, arith, Result, Ok, Err, OnOk, OnErr}
+use Rattle.std.proofs.Common.{◌≡◌, ◌+◌, ◌≤◌, true, cond, eqb, ◌&&◌, List, [], ◌∷◌, ◌++◌, sym, ap, ◌∙◌, inl, inr, arith, Result, Ok, Err, OnOk, OnErr}
 use Rattle.std.proofs.lemmas.Bool.{cond-true, cond-false, cases_Bool, eq-eqb, and_from}
-use Rattle.cl_types.specs.declared.operations.Mode.{Mode}
 use Rattle.cl_types.specs.declared.operations.Mode.TheVariants.{Exclusive}
-use Rattle.cl_types.specs.declared.operations.TxnId.{TxnId}
-use Rattle.cl_types.specs.Places.{Place, Stored, same_place}
+use Rattle.cl_types.specs.Places.{Place, Stored}
 use Rattle.cl_log.specs.declared.records.LogRec.{LogRec}
-use Rattle.cl_log.specs.declared.records.LogRec.TheVariants.{Touch, Set, Add, Comp, Prepared, End, Decide}
+use Rattle.cl_log.specs.declared.records.LogRec.TheVariants.{Touch, Set, Add, End}
 use Rattle.cl_log.specs.LogEntry.{LogEntry}
 use Rattle.cl_log.specs.Kind.{writes, number_before}
-use Rattle.cl_log.specs.Log.{entries, next_number}
+use Rattle.cl_log.specs.Log.{next_number}
 use Rattle.cl_log.specs.Store.{written, stored_after, redo_by_guard}
-use Rattle.cl_locks.specs.Grants.{Grant, after_grant, without_txn}
+use Rattle.cl_locks.specs.Grants.{Grant}
 use Rattle.cl_locks.specs.Table.{grants_at, IsTableOf}
 use Rattle.cl_locks.proofs.TableLaws.{IsTableOf-granted, IsTableOf-released, IsTableOf-kept}
 use Rattle.cl_redo.specs.Condition.{MeetsWrite}

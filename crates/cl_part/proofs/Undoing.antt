@@ -4,7 +4,7 @@ use Rattle.std.proofs.lemmas.Bool.{false≢true}
 use Rattle.cl_types.specs.Places.{Place, Stored, same_place}
 use Rattle.cl_types.proofs.Places.{same_place-true}
 use Rattle.cl_log.specs.declared.records.LogRec.{LogRec}
-use Rattle.cl_log.specs.declared.records.LogRec.TheVariants.{Touch, Set, Add, Comp, Prepared, End, Decide}
+use Rattle.cl_log.specs.declared.records.LogRec.TheVariants.{Set, Add}
 use Rattle.cl_log.specs.Kind.{writes, number_before, can_be_undone}
 use Rattle.cl_log.specs.Locks.{takes_lock}
 use Rattle.cl_types.specs.declared.operations.TxnId.{TxnId}

@@ -3,7 +3,7 @@ use Rattle.std.specs.Prelude.{◌≡◌, ℕ, ◌+◌, ◌<◌, List, [], ◌∷
 use Rattle.cl_types.specs.declared.operations.Mode.TheVariants.{Exclusive}
 use Rattle.cl_types.specs.Places.{Place, Stored}
 use Rattle.cl_log.specs.declared.records.LogRec.{LogRec}
-use Rattle.cl_log.specs.declared.records.LogRec.TheVariants.{Touch, Set, Add, Comp, Prepared, End, Decide}
+use Rattle.cl_log.specs.declared.records.LogRec.TheVariants.{Touch, Set, Add, End}
 use Rattle.cl_log.specs.LogEntry.{LogEntry}
 use Rattle.cl_log.specs.Log.{entries, next_number}
 use Rattle.cl_log.specs.Store.{stored_after}

@@ -3,6 +3,7 @@
 #![tactic(auto)]
 
 mod part;
+mod target;
 
 pub use cl_types::Answer;
 pub use part::Part;

@@ -1,20 +1,26 @@
 //! The participant itself.
-ghost use Rattle.std.specs.Prelude.{◌≡◌, ◌≢◌, ◌+◌, ◌≤◌, ◌<◌, true, false, [], IfOk, OnOk, OnErr};
+ghost use Rattle.std.specs.Prelude.{◌≡◌, ◌≢◌, ◌+◌, ◌≤◌, ◌<◌, true, false, [], Some, None, Err, IfOk, OnOk, OnErr};
+ghost use Rattle.cl_types.specs.declared.operations.TxnId.{TxnId};
 ghost use Rattle.cl_types.specs.Places.{Place};
+ghost use Rattle.cl_types.specs.Plain.{plain_reply};
 ghost use Rattle.cl_log.specs.Kind.{writes, number_before, can_be_undone};
 ghost use Rattle.cl_log.specs.Locks.{takes_lock};
-ghost use Rattle.cl_log.specs.Log.{entries, next_number};
+ghost use Rattle.cl_log.specs.Log.{entries, next_number, room as room_of_log};
 ghost use Rattle.cl_log.specs.Rest.{rest_to_undo};
-ghost use Rattle.cl_store.specs.Store.{stored};
-ghost use Rattle.cl_part.specs.Calls.{after_prepare, after_end, after_undo, has_rest, place_of};
-ghost use Rattle.cl_part.specs.Recorded.{IsSame, HasRecorded};
+ghost use Rattle.cl_locks.specs.Grants.{first_conflict};
+ghost use Rattle.cl_locks.specs.Table.{grants_at, held};
+ghost use Rattle.cl_order.specs.Operations.{mode_of, record_of};
+ghost use Rattle.cl_store.specs.Store.{stored, room};
+ghost use Rattle.cl_part.specs.Calls.{answer_to, after_op, after_prepare, after_end, after_undo, has_rest, place_of};
+ghost use Rattle.cl_part.specs.Recorded.{IsSame, HasRecorded, HasRecordedOptional, HasWritten, HasAppendedOptional, touched};
 ghost use Rattle.cl_part.specs.State.{State, IsStateOf, IsBelowNext, new_state};
 
-use cl_locks::Locks;
+use crate::target::{Target, mode_of};
+use cl_locks::{Granted, LockRefused, Locks};
 use cl_log::{LOG_NUMBER_MAX, Log, LogRec, undo_of};
-use cl_redo::take;
+use cl_redo::{reserve, take};
 use cl_store::Store;
-use cl_types::{Key, NoMemory, TableName, TxnId};
+use cl_types::{Answer, Key, Mode, NoMemory, Op, Reply, TableName, TxnId, Value, apply_op};
 use std::alloc::Global;
 
 /// What a primary keeps of the transactions at a virtual node: the records, the log and the locks.
@@ -67,6 +73,100 @@ impl Part {
             content,
         )?;
         Ok(number)
+    }
+
+    /// Carries out an operation of the transaction at a place, unless another transaction holds a lock
+    /// in conflict there.
+    ///
+    /// `Refused` names the first holder in conflict, in order of grant. After `Refused` and `NoMemory`
+    /// all is as it was. An operation looks its place up in the store and in the locks, and appends at
+    /// most one record.
+    pub fn ask_op(&mut self, txn: TxnId, table: &TableName, key: &Key, op: &Op) -> Answer
+        requires room { next_number self.old.log ≤ LOG_NUMBER_MAX }
+        requires below { IsBelowNext self.old }
+        ensures answer { (before : State) → IsStateOf self.old before → result ≢ Answer.NoMemory
+            → result ≡ answer_to before txn (table.now, key.now) op.now }
+        ensures state { (before : State) → IsStateOf self.old before → result ≢ Answer.NoMemory
+            → IsStateOf self.new (after_op before txn (table.now, key.now) op.now) }
+        ensures no_memory { (before : State) → IsStateOf self.old before → result ≡ Answer.NoMemory
+            → IsStateOf self.new before }
+        ensures below { IsBelowNext self.new }
+        ensures next { next_number self.new.log ≤ next_number self.old.log + 1 }
+    {
+        match self.carry_out(txn, table, key, op) {
+            Ok(reply) => Answer::Done(reply),
+            Err(LockRefused::Held(holder)) => Answer::Refused(holder),
+            Err(LockRefused::NoMemory) => Answer::NoMemory,
+        }
+    }
+
+    // Carries out an operation whose lock is granted. It does all that may fail before it changes
+    // anything.
+    fn carry_out(
+        &mut self,
+        txn: TxnId,
+        table: &TableName,
+        key: &Key,
+        op: &Op,
+    ) -> Result<Reply, LockRefused>
+        requires room { next_number self.old.log ≤ LOG_NUMBER_MAX }
+        requires below { IsBelowNext self.old }
+        ensures reply { let place : Place = (table.now, key.now) in
+            IfOk result (λ reply. reply ≡ plain_reply op.now (stored self.old.store place).1) }
+        ensures free { let place : Place = (table.now, key.now) in
+            OnOk result (first_conflict (grants_at self.old.locks place) txn place (mode_of op.now) ≡ None) }
+        ensures held { let place : Place = (table.now, key.now) in
+            (holder : TxnId) → result ≡ Err (LockRefused.Held holder)
+            → first_conflict (grants_at self.old.locks place) txn place (mode_of op.now) ≡ Some holder }
+        ensures recorded { let place : Place = (table.now, key.now) in
+            OnOk result (HasRecordedOptional self.old self.new
+            (record_of txn place op.now (stored self.old.store place) (held self.old.locks txn place))) }
+        ensures err { OnErr result (IsSame self.old self.new) }
+    {
+        let (before, old) = self.store.get(table, key);
+        let (reply, value) = apply_op(self.alloc, op, old)?;
+        let target = Target {
+            txn,
+            table: table.copy(),
+            key: key.copy(),
+            before,
+        };
+        let write = target.write(self.alloc, op, old, &reply)?;
+        reserve(&mut self.store, &mut self.log, 1)?;
+        let granted = self.locks.ask(txn, table, key, mode_of(op))?;
+        match write {
+            Some(content) => {
+                self.write(table, key, content, value);
+                Ok(reply)
+            }
+            None => {
+                self.touch(txn, table, key, mode_of(op), granted);
+                Ok(reply)
+            }
+        }
+    }
+
+    // Appends the record of a write, and makes it.
+    fn write(&mut self, table: &TableName, key: &Key, content: LogRec, value: Option<Value>)
+        requires next { next_number self.old.log ≤ LOG_NUMBER_MAX }
+        requires below { IsBelowNext self.old }
+        requires room { (1 ≤ room self.old.store) × (1 ≤ room_of_log self.old.log) }
+        ensures { HasWritten self.old self.new (table.now, key.now) content value }
+    {
+        let number = self.log.append(content);
+        self.store.write(table, key, value, number);
+    }
+
+    // Appends a Touch where a lock was granted that is new or stronger.
+    fn touch(&mut self, txn: TxnId, table: &TableName, key: &Key, mode: Mode, granted: Granted)
+        requires next { next_number self.old.log ≤ LOG_NUMBER_MAX }
+        requires room { 1 ≤ room_of_log self.old.log }
+        ensures { HasAppendedOptional self.old self.new (touched granted (LogRec.Touch txn table.now key.now mode)) }
+    {
+        if granted != Granted::Already {
+            self.log
+                .append(LogRec::Touch(txn, table.copy(), key.copy(), mode));
+        }
     }
 
     /// Votes for the transaction: appends its Prepared, and gives the number of that record.

@@ -1,5 +1,4 @@
-use Rattle.std.proofs.Common.{◌≡◌, List, refl, ap, ◌∙◌, arith, None}
-use Rattle.cl_types.specs.Places.{Place, Stored}
+use Rattle.std.proofs.Common.{◌≡◌, List, ap, arith}
 use Rattle.cl_locks.proofs.TableLaws.{IsTableOf-empty}
 use Rattle.cl_store.specs.declared.item.Item.{Item}
 use Rattle.cl_store.specs.Items.{stored_at}

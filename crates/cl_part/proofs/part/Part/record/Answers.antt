@@ -1,12 +1,9 @@
-use Rattle.std.proofs.Common.{◌≡◌, ◌+◌, ◌≤◌, [], ◌∷◌, ◌++◌, sym, ap, ◌∙◌, arith}
-use Rattle.cl_types.specs.Places.{Place, Stored}
-use Rattle.cl_log.specs.declared.records.LogRec.{LogRec}
-use Rattle.cl_log.specs.LogEntry.{LogEntry}
+use Rattle.std.proofs.Common.{◌≡◌, ◌+◌, [], ◌∷◌, ◌++◌, ap, ◌∙◌, arith}
 use Rattle.cl_log.specs.Log.{entries, next_number}
 use Rattle.cl_log.specs.Store.{redo_by_guard}
 use Rattle.cl_log.proofs.LogWords.{one-le-next_number}
 use Rattle.cl_store.specs.Store.{stored}
-use Rattle.cl_part.proofs.States.{MeetsWrite-next, redo_by_guard-carried}
+use Rattle.cl_part.proofs.States.{redo_by_guard-carried}
 use Rattle.cl_part.proofs.part.Part.record.Goals as goal
 
 pub take-requires-clause-number : goal.take-requires-clause-number

@@ -1,10 +1,7 @@
-use Rattle.std.proofs.Common.{◌≡◌, true, Some, sym, ap, ◌∙◌}
+use Rattle.std.proofs.Common.{sym, ap, ◌∙◌}
 use Rattle.cl_types.specs.Places.{Place}
-use Rattle.cl_log.specs.declared.records.LogRec.{LogRec}
 use Rattle.cl_log.specs.Log.{entries}
 use Rattle.cl_log.proofs.Rest.{nil_of_no_number}
-use Rattle.cl_log.specs.Kind.{can_be_undone}
-use Rattle.cl_part.specs.Calls.{place_of}
 use Rattle.cl_store.specs.Store.{stored}
 use Rattle.cl_part.proofs.Undoing.{IsFirstLeft, IsFirstLeft-at, left-is-kept, has_rest-first, has_rest-none, IsStateOf-nothing_left, IsStateOf-undone}
 use Rattle.cl_part.proofs.part.Part.undo_one.Goals as goal
