@@ -1,3 +1,4 @@
+pub mod Operating
+pub mod Soundness
 pub mod States
 pub mod Undoing
-pub mod Operating

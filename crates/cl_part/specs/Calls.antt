@@ -76,3 +76,18 @@ is_any (entry ∷ entries) = true
 -- whether something of the transaction is left to undo
 unfoldable pub has_rest : List LogEntry → TxnId → Bool
 has_rest log txn = is_any (rest_to_undo log txn)
+
+-- ---- any call
+
+pub data Call : Type 0 where
+  ask_op : TxnId → Place → Op → Call
+  prepare : TxnId → Call
+  undo_one : TxnId → Call
+  end : TxnId → Bool → Call
+
+-- the state after a call that does not run out of memory
+abbrev pub after_call : State → Call → State
+after_call state (ask_op txn place op) = after_op state txn place op
+after_call state (prepare txn) = after_prepare state txn
+after_call state (undo_one txn) = after_undo state txn
+after_call state (end txn commit) = after_end state txn commit

@@ -1,3 +1,4 @@
 pub mod Calls
 pub mod Recorded
+pub mod Sound
 pub mod State

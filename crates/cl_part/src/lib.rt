@@ -2,8 +2,10 @@
 //! of a virtual node.
 #![tactic(auto)]
 
+mod laws;
 mod part;
 mod target;
 
 pub use cl_types::Answer;
+pub use laws::calls_keep_sound;
 pub use part::Part;

@@ -1,0 +1,14 @@
+//! What holds of every participant. Each function does nothing: its contract is a law.
+ghost use Rattle.cl_part.specs.Sound.{NewIsSound, SoundIsBelowNext, OperationsKeepSound, PrepareKeepsSound, UndoKeepsSound, EndKeepsSound};
+
+/// A new participant is sound: its store and its locks are those of its log. Each call keeps it
+/// sound, an operation where its transaction has not ended. A sound participant has no stored
+/// number above its last log number, as each call asks.
+pub fn calls_keep_sound()
+    ensures new { NewIsSound }
+    ensures below { SoundIsBelowNext }
+    ensures operation { OperationsKeepSound }
+    ensures prepare { PrepareKeepsSound }
+    ensures undo { UndoKeepsSound }
+    ensures end { EndKeepsSound }
+{}
