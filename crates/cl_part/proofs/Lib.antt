@@ -1,3 +1,4 @@
+pub mod Following
 pub mod Operating
 pub mod Soundness
 pub mod States

@@ -1,4 +1,5 @@
 pub mod Calls
+pub mod Laws
 pub mod Recorded
 pub mod Sound
 pub mod State

@@ -1,4 +1,5 @@
 //! What holds of every participant. Each function does nothing: its contract is a law.
+ghost use Rattle.cl_part.specs.Laws.{CallsAreSteps, CallsKeepOrder, EventsMakeOrder};
 ghost use Rattle.cl_part.specs.Sound.{NewIsSound, SoundIsBelowNext, OperationsKeepSound, PrepareKeepsSound, UndoKeepsSound, EndKeepsSound};
 
 /// A new participant is sound: its store and its locks are those of its log. Each call keeps it
@@ -11,4 +12,13 @@ pub fn calls_keep_sound()
     ensures prepare { PrepareKeepsSound }
     ensures undo { UndoKeepsSound }
     ensures end { EndKeepsSound }
+{}
+
+/// On the sound participant of a virtual node, a call that may be made is one of the steps of a
+/// ledger, or none where an operation is refused or nothing is left to undo. So calls and commits
+/// from the start keep the ledger ordered.
+pub fn calls_are_steps()
+    ensures steps { CallsAreSteps }
+    ensures order { CallsKeepOrder }
+    ensures events { EventsMakeOrder }
 {}
