@@ -1,5 +1,6 @@
 pub mod Following
 pub mod Operating
+pub mod Rollback
 pub mod Soundness
 pub mod States
 pub mod Undoing

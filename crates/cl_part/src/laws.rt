@@ -1,6 +1,6 @@
 //! What holds of every participant. Each function does nothing: its contract is a law.
 ghost use Rattle.cl_part.specs.Laws.{CallsAreSteps, CallsKeepOrder, EventsMakeOrder};
-ghost use Rattle.cl_part.specs.Sound.{NewIsSound, SoundIsBelowNext, OperationsKeepSound, PrepareKeepsSound, UndoKeepsSound, EndKeepsSound};
+ghost use Rattle.cl_part.specs.Sound.{NewIsSound, SoundIsBelowNext, OperationsKeepSound, PrepareKeepsSound, UndoKeepsSound, EndKeepsSound, UndoTakesFirst, UndoKeepsMap};
 
 /// A new participant is sound: its store and its locks are those of its log. Each call keeps it
 /// sound, an operation where its transaction has not ended. A sound participant has no stored
@@ -12,6 +12,13 @@ pub fn calls_keep_sound()
     ensures prepare { PrepareKeepsSound }
     ensures undo { UndoKeepsSound }
     ensures end { EndKeepsSound }
+{}
+
+/// An undo step takes the first of what is left to undo. It leaves the settled map under each
+/// history without its transaction, so a rollback that was cut off continues to the same map.
+pub fn rollback_continues()
+    ensures first { UndoTakesFirst }
+    ensures map { UndoKeepsMap }
 {}
 
 /// On the sound participant of a virtual node, a call that may be made is one of the steps of a
