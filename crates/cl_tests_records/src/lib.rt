@@ -1,10 +1,12 @@
-//! Tests of locks, stores, logs, redo and packets through their public calls, a module for each crate.
+//! Tests of locks, stores, logs, redo, participants and packets through their public calls, a module for each crate.
 #![tactic(auto)]
 
 #[cfg(test)]
 mod locks;
 #[cfg(test)]
 mod log;
+#[cfg(test)]
+mod part;
 #[cfg(test)]
 mod redo;
 #[cfg(test)]
