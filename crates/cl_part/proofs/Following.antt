@@ -5,6 +5,7 @@ use Rattle.cl_types.specs.declared.operations.Mode.{Mode}
 use Rattle.cl_types.specs.declared.operations.Op.{Op}
 use Rattle.cl_types.specs.declared.operations.TxnId.{TxnId}
 use Rattle.cl_types.specs.Modes.{is_conflict}
+use Rattle.cl_types.specs.Plain.{plain_reply}
 use Rattle.cl_types.specs.Places.{Place, Stored}
 use Rattle.cl_types.specs.Transactions.{same_txn}
 use Rattle.cl_types.proofs.Modes.{is_conflict-symmetric}
@@ -20,12 +21,12 @@ use Rattle.cl_log.specs.Store.{store_of_log}
 use Rattle.cl_log.proofs.Rest.{HeadsRest-from}
 use Rattle.cl_locks.specs.Grants.{Grant, is_of, is_in_conflict, first_conflict, own_grant, mode_held}
 use Rattle.cl_locks.proofs.GrantLists.{find-passes, mapped_none}
-use Rattle.cl_order.specs.Ledger.{Ledger, log_at, lock_at, IsOrdered}
+use Rattle.cl_order.specs.Ledger.{stored_at, Ledger, log_at, lock_at, IsOrdered}
 use Rattle.cl_order.specs.Operations.{mode_of, record_of}
 use Rattle.cl_order.specs.Steps.{Step, carry_out, join, log_with, log_with_optional, logs_with, record_now, after_step, after_steps, AreEnabled, MayCarryOut, MayUndo, new_ledger}
 use Rattle.cl_order.proofs.LawLemmas.{steps_keep_order, new_ordered}
-use Rattle.cl_part.specs.Calls.{ask_op, prepare, undo_one, end, refusing, record_left, after_asked, after_op, after_prepare, after_end, after_undo, place_of, undo_now}
-use Rattle.cl_part.specs.Laws.{step_asked, step_undoing, steps_of, MayWork, MayCall, IsAt, FollowsCall, CallsAreSteps, CallsKeepOrder, Event, calls, joins, steps_of_event, after_event, MayHappen, MayHappenInTurn, ledger_after, state_after, EventsMakeOrder}
+use Rattle.cl_part.specs.Calls.{answer_by, answer_to, ask_op, prepare, undo_one, end, refusing, record_left, after_asked, after_op, after_prepare, after_end, after_undo, place_of, undo_now}
+use Rattle.cl_part.specs.Laws.{AnswersAreNoted, step_asked, step_undoing, steps_of, MayWork, MayCall, IsAt, FollowsCall, CallsAreSteps, CallsKeepOrder, Event, calls, joins, steps_of_event, after_event, MayHappen, MayHappenInTurn, ledger_after, state_after, EventsMakeOrder}
 use Rattle.cl_part.specs.Sound.{IsSound}
 use Rattle.cl_part.specs.State.{State, new_state, after_record, after_optional}
 use Rattle.cl_part.proofs.Soundness.{new_is_sound, operations_keep_sound, prepare_keeps_sound, undo_keeps_sound, end_keeps_sound}
@@ -169,6 +170,13 @@ module _ (ledger : Ledger) (state : State) (txn : TxnId) (place : Place) (op : O
         enabled = follows.0;
         after = record { sound = operations_keep_sound state txn place op at.sound (ap (λ (log : List LogEntry). has_ended log txn) (sym at.log) ∙ may.unended); log = follows.1 };
       }
+
+pub answers_are_noted : AnswersAreNoted
+unfolding answer_to
+answers_are_noted ledger v state txn place op at here =
+    let noted : stored_at ledger place ≡ state.stored place =
+    ap (λ u. store_of_log (ledger.logs u) place) here ∙ ap (λ (log : List LogEntry). store_of_log log place) at.log ∙ sym (at.sound.store place) in
+    ap (λ (s : Stored). answer_by (refusing state txn place op) (plain_reply op s.1)) (sym noted)
 
 -- ---- any call
 

@@ -1,13 +1,15 @@
 -- The calls of a participant are steps of a ledger.
 use Rattle.std.specs.Prelude.{◌≡◌, ℕ, false, List, [], ◌∷◌, Option, Some, None}
+use Rattle.cl_types.specs.declared.operations.Op.{Op}
 use Rattle.cl_types.specs.declared.operations.TxnId.{TxnId}
 use Rattle.cl_types.specs.Places.{Place}
+use Rattle.cl_types.specs.Plain.{plain_reply}
 use Rattle.cl_log.specs.LogEntry.{LogEntry}
 use Rattle.cl_log.specs.Open.{has_ended, is_among}
 use Rattle.cl_log.specs.Rest.{rest_to_undo}
-use Rattle.cl_order.specs.Ledger.{Ledger, IsOrdered}
+use Rattle.cl_order.specs.Ledger.{Ledger, stored_at, IsOrdered}
 use Rattle.cl_order.specs.Steps.{Step, carry_out, prepare as append_prepared, join, undo, finish, after_steps, AreEnabled, MayFinish, MayJoin, new_ledger}
-use Rattle.cl_part.specs.Calls.{Call, ask_op, prepare, undo_one, end, refusing, undo_now, after_call}
+use Rattle.cl_part.specs.Calls.{Call, ask_op, prepare, undo_one, end, refusing, answer_by, answer_to, undo_now, after_call}
 use Rattle.cl_part.specs.Sound.{IsSound}
 use Rattle.cl_part.specs.State.{State, new_state}
 
@@ -50,6 +52,11 @@ pub record FollowsCall (ledger : Ledger) (v : ℕ) (state : State) (call : Call)
 
 abbrev pub CallsAreSteps : Type 0
 CallsAreSteps = (ledger : Ledger) (v : ℕ) (state : State) (call : Call) → IsAt ledger v state → MayCall ledger v call → FollowsCall ledger v state call
+
+-- an operation that is not refused is answered with the reply that the ledger notes
+abbrev pub AnswersAreNoted : Type 0
+AnswersAreNoted = (ledger : Ledger) (v : ℕ) (state : State) (txn : TxnId) (place : Place) (op : Op) → IsAt ledger v state → ledger.on place ≡ v →
+    answer_to state txn place op ≡ answer_by (refusing state txn place op) (plain_reply op (stored_at ledger place).1)
 
 -- so a call keeps the ledger ordered
 abbrev pub CallsKeepOrder : Type 0

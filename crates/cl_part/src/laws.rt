@@ -1,5 +1,5 @@
 //! What holds of every participant. Each function does nothing: its contract is a law.
-ghost use Rattle.cl_part.specs.Laws.{CallsAreSteps, CallsKeepOrder, EventsMakeOrder};
+ghost use Rattle.cl_part.specs.Laws.{AnswersAreNoted, CallsAreSteps, CallsKeepOrder, EventsMakeOrder};
 ghost use Rattle.cl_part.specs.Sound.{NewIsSound, SoundIsBelowNext, OperationsKeepSound, PrepareKeepsSound, UndoKeepsSound, EndKeepsSound, UndoTakesFirst, UndoKeepsMap};
 
 /// A new participant is sound: its store and its locks are those of its log. Each call keeps it
@@ -22,10 +22,12 @@ pub fn rollback_continues()
 {}
 
 /// On the sound participant of a virtual node, a call that may be made is one of the steps of a
-/// ledger, or none where an operation is refused or nothing is left to undo. So calls and commits
-/// from the start keep the ledger ordered.
+/// ledger, or none where an operation is refused or nothing is left to undo. An operation is
+/// answered with the reply that the ledger notes. So calls and commits from the start keep the
+/// ledger ordered.
 pub fn calls_are_steps()
     ensures steps { CallsAreSteps }
+    ensures answers { AnswersAreNoted }
     ensures order { CallsKeepOrder }
     ensures events { EventsMakeOrder }
 {}

@@ -52,6 +52,20 @@ impl Part {
         }
     }
 
+    /// The participant of a replica that was made otherwise, as by taking the records of a log.
+    pub fn from_parts(alloc: Global, store: Store, log: Log, locks: Locks) -> Part
+        ensures store { result.store ≡ store }
+        ensures log { result.log ≡ log }
+        ensures locks { result.locks ≡ locks }
+    {
+        Part {
+            store,
+            log,
+            locks,
+            alloc,
+        }
+    }
+
     // Takes a record that asks for no lock, and gives its number.
     fn record(&mut self, content: LogRec) -> Result<u64, NoMemory>
         requires room { next_number self.old.log ≤ LOG_NUMBER_MAX }
@@ -79,8 +93,8 @@ impl Part {
     /// in conflict there.
     ///
     /// `Refused` names the first holder in conflict, in order of grant. After `Refused` and `NoMemory`
-    /// all is as it was. An operation looks its place up in the store and in the locks, and appends at
-    /// most one record.
+    /// all is as it was. The call looks the place up in the store and in the locks, and appends at
+    /// most one record. It allocates a fixed number of times, whatever there is.
     pub fn ask_op(&mut self, txn: TxnId, table: &TableName, key: &Key, op: &Op) -> Answer
         requires room { next_number self.old.log ≤ LOG_NUMBER_MAX }
         requires below { IsBelowNext self.old }
@@ -169,7 +183,7 @@ impl Part {
         }
     }
 
-    /// Votes for the transaction: appends its Prepared, and gives the number of that record.
+    /// Votes yes for the transaction: appends its Prepared, and gives the number of that record.
     pub fn prepare(&mut self, txn: TxnId) -> Result<u64, NoMemory>
         requires room { next_number self.old.log ≤ LOG_NUMBER_MAX }
         requires below { IsBelowNext self.old }
@@ -204,8 +218,8 @@ impl Part {
     /// Undoes the last write of the transaction that is not undone yet. `false` where nothing is
     /// left to undo.
     ///
-    /// It appends the compensation and writes the store. A rollback that was cut off continues where
-    /// its log ends. It walks the log from its end, as `Log::rest_to_undo` does.
+    /// It appends the compensation and writes the store. So a rollback that was cut off continues
+    /// where its log ends. The call walks the log from its end, as `Log::rest_to_undo` does.
     pub fn undo_one(&mut self, txn: TxnId) -> Result<bool, NoMemory>
         requires room { next_number self.old.log ≤ LOG_NUMBER_MAX }
         requires below { IsBelowNext self.old }

@@ -1,4 +1,4 @@
-use Rattle.cl_part.proofs.Following.{calls_are_steps, calls_keep_order, events_make_order}
+use Rattle.cl_part.proofs.Following.{answers_are_noted, calls_are_steps, calls_keep_order, events_make_order}
 use Rattle.cl_part.proofs.laws.calls_are_steps.Goals as goal
 
 pub returns-clause-steps : goal.returns-clause-steps
@@ -9,3 +9,6 @@ returns-clause-order c = calls_keep_order
 
 pub returns-clause-events : goal.returns-clause-events
 returns-clause-events c = events_make_order
+
+pub returns-clause-answers : goal.returns-clause-answers
+returns-clause-answers c = answers_are_noted
