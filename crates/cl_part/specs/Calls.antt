@@ -21,6 +21,7 @@ use Rattle.cl_part.specs.State.{State, after_record, after_optional}
 abbrev pub refusing : State → TxnId → Place → Op → Option TxnId
 refusing state txn place op = first_conflict state.grants txn place (mode_of op)
 
+-- refused by the first holder in conflict, where there is one, and else done with this reply
 abbrev pub answer_by : Option TxnId → Reply → Answer
 answer_by None reply = Done reply
 answer_by (Some holder) reply = Refused holder
@@ -33,6 +34,7 @@ answer_to state txn place op = answer_by (refusing state txn place op) (plain_re
 abbrev pub record_left : State → TxnId → Place → Op → Option LogRec
 record_left state txn place op = record_of txn place op (state.stored place) (mode_held state.grants txn place)
 
+-- the state as it was where a transaction refuses the operation, and else with the record it leaves
 abbrev pub after_asked : Option TxnId → State → Option LogRec → State
 after_asked None state content = after_optional state content
 after_asked (Some holder) state content = state
@@ -43,9 +45,11 @@ after_op state txn place op = after_asked (refusing state txn place op) state (r
 
 -- ---- the vote, and the end
 
+-- a vote appends a Prepared
 unfoldable pub after_prepare : State → TxnId → State
 after_prepare state txn = after_record state (Prepared txn)
 
+-- an end appends an End, which frees the locks of its transaction
 unfoldable pub after_end : State → TxnId → Bool → State
 after_end state txn commit = after_record state (End txn commit)
 
@@ -61,6 +65,7 @@ place_of content = ([], [])
 abbrev pub undo_now : State → LogEntry → LogRec
 undo_now state entry = undo_of entry.content entry.number (state.stored (place_of entry.content)).0
 
+-- the first of these writes is undone, where there is one
 abbrev pub after_undoing : State → List LogEntry → State
 after_undoing state [] = state
 after_undoing state (first ∷ others) = after_record state (undo_now state first)
@@ -69,6 +74,7 @@ after_undoing state (first ∷ others) = after_record state (undo_now state firs
 unfoldable pub after_undo : State → TxnId → State
 after_undo state txn = after_undoing state (rest_to_undo state.log txn)
 
+-- whether the list has an entry
 abbrev pub is_any : List LogEntry → Bool
 is_any [] = false
 is_any (entry ∷ entries) = true
@@ -79,6 +85,7 @@ has_rest log txn = is_any (rest_to_undo log txn)
 
 -- ---- any call
 
+-- the calls of a participant
 pub data Call : Type 0 where
   ask_op : TxnId → Place → Op → Call
   prepare : TxnId → Call

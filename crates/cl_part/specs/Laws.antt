@@ -13,10 +13,12 @@ use Rattle.cl_part.specs.Calls.{Call, ask_op, prepare, undo_one, end, refusing, 
 use Rattle.cl_part.specs.Sound.{IsSound}
 use Rattle.cl_part.specs.State.{State, new_state}
 
+-- the step of an operation, or none where a transaction refuses it
 abbrev pub step_asked : Option TxnId → Step → List Step
 step_asked None step = step ∷ []
 step_asked (Some holder) step = []
 
+-- the step that undoes the first of these writes, or none where there is none
 abbrev pub step_undoing : ℕ → State → List LogEntry → List Step
 step_undoing v state [] = []
 step_undoing v state (first ∷ others) = undo v (undo_now state first) ∷ []
@@ -50,6 +52,7 @@ pub record FollowsCall (ledger : Ledger) (v : ℕ) (state : State) (call : Call)
   pub enabled : AreEnabled ledger (steps_of v state call)
   pub after : IsAt (after_steps ledger (steps_of v state call)) v (after_call state call)
 
+-- a call that may be made on the participant of a virtual node is the steps named above
 abbrev pub CallsAreSteps : Type 0
 CallsAreSteps = (ledger : Ledger) (v : ℕ) (state : State) (call : Call) → IsAt ledger v state → MayCall ledger v call → FollowsCall ledger v state call
 
@@ -65,20 +68,24 @@ CallsKeepOrder = (ledger : Ledger) (v : ℕ) (state : State) (call : Call) → I
 
 -- ---- calls and commits, one after another, from the start
 
+-- what happens at one participant: a call, or a transaction joins the history
 pub data Event : Type 0 where
   -- a call on the participant
   calls : Call → Event
   -- a transaction joins the history
   joins : TxnId → Event
 
+-- the steps of the ledger that an event is
 abbrev pub steps_of_event : ℕ → State → Event → List Step
 steps_of_event v state (calls call) = steps_of v state call
 steps_of_event v state (joins txn) = join txn ∷ []
 
+-- the participant after an event: joining the history leaves it as it is
 abbrev pub after_event : State → Event → State
 after_event state (calls call) = after_call state call
 after_event state (joins txn) = state
 
+-- what an event needs
 abbrev pub MayHappen : Ledger → ℕ → Event → Type 0
 MayHappen ledger v (calls call) = MayCall ledger v call
 MayHappen ledger v (joins txn) = MayJoin ledger txn
@@ -89,10 +96,12 @@ MayHappenInTurn ledger v state [] = Unit {0}
 MayHappenInTurn ledger v state (event ∷ events) =
     MayHappen ledger v event × MayHappenInTurn (after_steps ledger (steps_of_event v state event)) v (after_event state event) events
 
+-- the ledger after events, one after another
 abbrev pub ledger_after : Ledger → ℕ → State → List Event → Ledger
 ledger_after ledger v state [] = ledger
 ledger_after ledger v state (event ∷ events) = ledger_after (after_steps ledger (steps_of_event v state event)) v (after_event state event) events
 
+-- the participant after events, one after another
 abbrev pub state_after : State → List Event → State
 state_after state [] = state
 state_after state (event ∷ events) = state_after (after_event state event) events

@@ -21,6 +21,7 @@ pub record IsSound (state : State) : Type 0 where
   pub store : IsStoreOf state.stored state.log
   pub locks : AreLocksOf (mode_held state.grants) state.log
 
+-- a new participant, whose log begins with 1, is sound
 abbrev pub NewIsSound : Type 0
 NewIsSound = IsSound (new_state 1)
 
@@ -36,9 +37,11 @@ OperationsKeepSound = (state : State) (txn : TxnId) (place : Place) (op : Op) �
 abbrev pub PrepareKeepsSound : Type 0
 PrepareKeepsSound = (state : State) (txn : TxnId) → IsSound state → IsSound (after_prepare state txn)
 
+-- an undo step keeps it sound
 abbrev pub UndoKeepsSound : Type 0
 UndoKeepsSound = (state : State) (txn : TxnId) → IsSound state → IsSound (after_undo state txn)
 
+-- an end keeps it sound
 abbrev pub EndKeepsSound : Type 0
 EndKeepsSound = (state : State) (txn : TxnId) (commit : Bool) → IsSound state → IsSound (after_end state txn commit)
 

@@ -12,6 +12,7 @@ use Rattle.cl_locks.specs.Table.{IsTableOf}
 use Rattle.cl_store.specs.Store.{stored as stored_in}
 use Rattle.cl_part.specs.declared.part.Part.{Part}
 
+-- a participant as plain data
 pub record State : Type 0 where
   -- what stands at each place
   pub stored : Place → Stored
