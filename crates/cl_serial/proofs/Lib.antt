@@ -1,9 +1,12 @@
 pub mod Examples
+pub mod FirstDifferences
 pub mod Gathered
 pub mod Growth
 pub mod LineLemmas
 pub mod Places
 pub mod PlainMapLemmas
 pub mod Replayed
+pub mod Settled
 pub mod SameSession
 pub mod Steps
+pub mod UnfitMembers

@@ -6,3 +6,6 @@ pub mod PlainMapModel
 pub mod Serial
 pub mod Bytes
 pub mod Laws
+pub mod Gathering
+pub mod Verdict
+pub mod Replaying
