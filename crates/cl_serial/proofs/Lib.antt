@@ -10,3 +10,4 @@ pub mod Settled
 pub mod SameSession
 pub mod Steps
 pub mod UnfitMembers
+pub mod Verdicts

@@ -1,5 +1,13 @@
 //! The laws of transcripts and replays. A law is the contract of a function that does nothing.
 ghost use Rattle.cl_serial.specs.Laws.{EntryAddsItsQuestion, EntryAddsItsAnswer, EntryAddsItsLine, EntryAddsItsFault, EntryAddsItsRefusal, EntryAddsItsText, OtherEntryLeavesExchanges, QuestionAddsExchange, QuestionStepsSession, AnswerFillsExchange, AnswerStepsSession, HistoriesJoin, BackReplaysAfterFront, RepliesJoin};
+ghost use Rattle.cl_serial.specs.Verdict.{OneVerdict, SameSaysReplay, FitIsSame};
+
+/// A history has one verdict on a transcript, and it is `Same` exactly where the history replays the transcript.
+pub fn there_is_one_verdict()
+    ensures one { OneVerdict }
+    ensures same { SameSaysReplay }
+    ensures fits { FitIsSame }
+{}
 
 /// One more entry adds what it says, at its position: to each session what it asks and answers there, and to the whole
 /// its line, its fault, its refusal and its text.

@@ -13,7 +13,9 @@ mod transactions;
 mod transcript;
 mod verdict;
 
-pub use laws::{one_more_answer, one_more_entry, one_more_question, replays_join};
+pub use laws::{
+    one_more_answer, one_more_entry, one_more_question, replays_join, there_is_one_verdict,
+};
 pub use plain_map::PlainMap;
 pub use replaying::replay;
 pub use transcript::{History, Said, Transcript};
