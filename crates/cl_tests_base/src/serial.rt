@@ -1,6 +1,11 @@
 //! The plain map, one operation after another.
+mod verdicts;
+
 use cl_samples::{NoSample, key, table, value};
-use cl_serial::{PlainMap, one_more_answer, one_more_entry, one_more_question, replays_join};
+use cl_serial::{
+    PlainMap, one_more_answer, one_more_entry, one_more_question, replays_join,
+    there_is_one_verdict,
+};
 use cl_types::{Op, Reply};
 use std::alloc::Global;
 use std::test::Fail;
@@ -138,4 +143,5 @@ fn the_laws_are_called() {
     one_more_question();
     one_more_answer();
     replays_join();
+    there_is_one_verdict();
 }
