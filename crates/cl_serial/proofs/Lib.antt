@@ -11,3 +11,4 @@ pub mod SameSession
 pub mod Steps
 pub mod UnfitMembers
 pub mod Verdicts
+pub mod WrittenAnswers

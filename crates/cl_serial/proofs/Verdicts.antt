@@ -1,5 +1,5 @@
 -- There is one verdict, and Same says that the history replays the transcript.
-use Rattle.std.proofs.Common.{◌≡◌, ℕ, suc, ◌+◌, ◌<◌, ◌≤◌, ◌⊎◌, inl, inr, ◌↔◌, List, [], ◌∷◌, ◌++◌, Option, Some, None, IsSome, refl, sym, ap, ◌∙◌, subst, arith}
+use Rattle.std.proofs.Common.{◌≡◌, ℕ, suc, ◌<◌, inl, inr, ◌↔◌, List, [], ◌∷◌, ◌++◌, Option, Some, None, IsSome, refl, sym, ap, ◌∙◌, subst, arith}
 use Rattle.std.specs.Option.{unwrap_or}
 use Rattle.std.specs.List.{flat_map}
 use Rattle.std.proofs.lemmas.List.Sums.{fold-append}
@@ -8,14 +8,12 @@ use Rattle.cl_types.specs.declared.operations.Command.{Command}
 use Rattle.cl_types.specs.declared.operations.Command.TheVariants.{Begin, Work, Commit, Abort}
 use Rattle.cl_types.specs.declared.operations.TxnId.{TxnId}
 use Rattle.cl_types.specs.declared.answers.Outcome.{Outcome}
-use Rattle.cl_types.specs.declared.answers.Outcome.TheVariants.{Done}
-use Rattle.cl_types.specs.Plain.{plain_reply}
 use Rattle.cl_serial.specs.Transcript.{TranscriptEntry}
 use Rattle.cl_serial.specs.Exchanges.{Exchange, outcome_of}
 use Rattle.cl_serial.specs.Transactions.{commands_of}
 use Rattle.cl_serial.specs.PlainMap.{Values, Operation, operation_in, operation_by, operations, no_values, after_operation, after_operations, RepliesAgree}
 use Rattle.cl_serial.specs.Serial.{StandsAt, IsIn, HistoryFits, operations_of}
-use Rattle.cl_serial.specs.Verdict.{Commands, HasCommit, StandsAgain, IsUnfit, FirstUnfit, AreFit, WrittenAgree, FirstDifference, VerdictOn, IsVerdict, replayed_outcome}
+use Rattle.cl_serial.specs.Verdict.{Commands, IsUnfit, FirstUnfit, AreFit, WrittenAgree, FirstDifference, VerdictOn, IsVerdict, replayed_outcome}
 use Rattle.cl_serial.specs.declared.verdict.Verdict.{Verdict}
 use Rattle.cl_serial.specs.declared.verdict.Verdict.TheVariants.{Same, Unfit, First}
 use Rattle.cl_serial.proofs.FirstDifferences.{operations-append}
@@ -48,9 +46,10 @@ operations-flat_map commands (name ∷ history) =
 pub same_says_replay : (transcript : List TranscriptEntry) (history : List TxnId) → ((operation : Operation) → IsIn (operations_of transcript history) operation → IsSome operation.outcome)
     → IsVerdict transcript history Same ↔ (AreFit (commands_of transcript) history × RepliesAgree no_values (operations_of transcript history))
 same_says_replay transcript history replied =
-    let same = operations-flat_map (commands_of transcript) history in
-    (λ h. (h.0, replies_from_written no_values (operations_of transcript history) replied (subst (WrittenAgree no_values) same h.1)),
-      λ h. (h.0, subst (WrittenAgree no_values) (sym same) (written_from_replies no_values (operations_of transcript history) h.1)))
+    let same = operations-flat_map (commands_of transcript) history in (
+      λ h. (h.0, replies_from_written no_values (operations_of transcript history) replied (subst (WrittenAgree no_values) same h.1)),
+      λ h. (h.0, subst (WrittenAgree no_values) (sym same) (written_from_replies no_values (operations_of transcript history) h.1)),
+    )
 
 -- ---- one verdict
 
@@ -175,6 +174,7 @@ one_verdict commands history (First place written replayed) (First place' writte
 
 -- a history that fits has the verdict Same
 pub fit_is_same : (transcript : List TranscriptEntry) (history : List TxnId) → HistoryFits transcript history → IsVerdict transcript history Same
-fit_is_same transcript history fits =
-    (record { distinct = fits.distinct; committing = fits.committing },
-      subst (WrittenAgree no_values) (sym (operations-flat_map (commands_of transcript) history)) (written_from_replies no_values (operations_of transcript history) fits.replies_replay))
+fit_is_same transcript history fits = (
+  record { distinct = fits.distinct; committing = fits.committing },
+  subst (WrittenAgree no_values) (sym (operations-flat_map (commands_of transcript) history)) (written_from_replies no_values (operations_of transcript history) fits.replies_replay),
+)

@@ -1,4 +1,4 @@
--- The laws of transcripts and replays: what one more entry extends, and how replays join.
+-- The laws of transcripts and replays: what one more entry extends, how replays join, and what a verdict says.
 use Rattle.std.specs.Prelude.{◌≡◌, ℕ, ◌≤◌, List, [], ◌∷◌, ◌++◌, length, Some, None, IsSome, All, ◌↔◌}
 use Rattle.cl_types.specs.declared.operations.Command.{Command}
 use Rattle.cl_types.specs.declared.operations.TxnId.{TxnId}
@@ -7,9 +7,12 @@ use Rattle.cl_lines.specs.declared.out.Out.TheVariants.{Answer}
 use Rattle.cl_lines.specs.Line.{client_of}
 use Rattle.cl_serial.specs.Transcript.{TranscriptEntry, fed, written, fed_line, fed_lines, entry_text, full_text, asked_in, answered_in, questions, answers, faulty_in, faulty_lines, refused_in, refusals}
 use Rattle.cl_serial.specs.Exchanges.{Exchange, unanswered, answered, exchanges}
-use Rattle.cl_serial.specs.Transactions.{session_step, session_after, session_state}
-use Rattle.cl_serial.specs.PlainMap.{Values, Operation, after_operations, RepliesAgree}
-use Rattle.cl_serial.specs.Serial.{operations_of, values_after}
+use Rattle.cl_serial.specs.Transactions.{session_step, session_after, session_state, commands_of}
+use Rattle.cl_serial.specs.PlainMap.{Values, Operation, no_values, after_operations, RepliesAgree}
+use Rattle.cl_serial.specs.Serial.{StandsAt, IsIn, HistoryFits, operations_of, values_after}
+use Rattle.cl_serial.specs.Verdict.{AreFit, IsVerdict}
+use Rattle.cl_serial.specs.declared.verdict.Verdict.{Verdict}
+use Rattle.cl_serial.specs.declared.verdict.Verdict.TheVariants.{Same, First}
 
 -- each exchange has its answer
 abbrev pub AreAnswered : List Exchange → Type 0
@@ -93,3 +96,26 @@ BackReplaysAfterFront = (transcript : List TranscriptEntry) (front back : List T
 abbrev pub RepliesJoin : Type 0
 RepliesJoin = (values : Values) (front back : List Operation) →
     RepliesAgree values (front ++ back) ↔ (RepliesAgree values front × RepliesAgree (after_operations values front) back)
+
+-- a history has one verdict on a transcript
+abbrev pub OneVerdict : Type 0
+OneVerdict = (transcript : List TranscriptEntry) (history : List TxnId) (verdict other : Verdict) →
+    IsVerdict transcript history verdict → IsVerdict transcript history other → verdict ≡ other
+
+-- each operation of the members was answered
+abbrev pub AreReplied : List TranscriptEntry → List TxnId → Type 0
+AreReplied transcript history = (operation : Operation) → IsIn (operations_of transcript history) operation → IsSome operation.outcome
+
+-- where they were, Same says that the members differ, have COMMIT, and that their operations give the transcript's replies
+abbrev pub SameSaysReplay : Type 0
+SameSaysReplay = (transcript : List TranscriptEntry) (history : List TxnId) → AreReplied transcript history →
+    IsVerdict transcript history Same ↔ (AreFit (commands_of transcript) history × RepliesAgree no_values (operations_of transcript history))
+
+-- a history that fits has the verdict Same
+abbrev pub FitIsSame : Type 0
+FitIsSame = (transcript : List TranscriptEntry) (history : List TxnId) → HistoryFits transcript history → IsVerdict transcript history Same
+
+-- a written outcome that differs stands in the transcript at its place, as an answer to a member's session
+abbrev pub DifferenceStands : Type 0
+DifferenceStands = (transcript : List TranscriptEntry) (history : List TxnId) (place : ℕ) (told replayed : Outcome) →
+    IsVerdict transcript history (First place told replayed) → (name : TxnId) × IsIn history name × StandsAt transcript place (written (Answer name.session told))

@@ -1,5 +1,5 @@
 -- The verdict on a history and a transcript: what each one says, and that there is one.
-use Rattle.std.specs.Prelude.{◌≡◌, ℕ, ◌<◌, List, [], ◌∷◌, ◌++◌, ◌⊎◌, Some, IsSome, ◌↔◌}
+use Rattle.std.specs.Prelude.{◌≡◌, ℕ, ◌<◌, List, [], ◌∷◌, ◌++◌, ◌⊎◌, Some}
 use Rattle.std.specs.List.{flat_map}
 use Rattle.cl_types.specs.declared.operations.Command.TheVariants.{Commit}
 use Rattle.cl_types.specs.declared.operations.TxnId.{TxnId}
@@ -9,8 +9,8 @@ use Rattle.cl_types.specs.Plain.{plain_reply}
 use Rattle.cl_serial.specs.Transcript.{TranscriptEntry}
 use Rattle.cl_serial.specs.Exchanges.{Exchange}
 use Rattle.cl_serial.specs.Transactions.{commands_of}
-use Rattle.cl_serial.specs.PlainMap.{Values, Operation, operation_in, operations, no_values, after_operation, after_operations, RepliesAgree}
-use Rattle.cl_serial.specs.Serial.{StandsAt, IsIn, HistoryFits, operations_of}
+use Rattle.cl_serial.specs.PlainMap.{Values, Operation, operation_in, operations, no_values, after_operation, after_operations}
+use Rattle.cl_serial.specs.Serial.{StandsAt, IsIn}
 use Rattle.cl_serial.specs.declared.verdict.Verdict.{Verdict}
 use Rattle.cl_serial.specs.declared.verdict.Verdict.TheVariants.{Same, Unfit, First}
 
@@ -76,23 +76,3 @@ VerdictOn commands history (First place written replayed) = AreFit commands hist
 -- the verdict on a history and a transcript
 abbrev pub IsVerdict : List TranscriptEntry → List TxnId → Verdict → Type 0
 IsVerdict transcript history verdict = VerdictOn (commands_of transcript) history verdict
-
--- ---- laws
-
--- a history has one verdict on a transcript
-abbrev pub OneVerdict : Type 0
-OneVerdict = (transcript : List TranscriptEntry) (history : List TxnId) (verdict other : Verdict) →
-    IsVerdict transcript history verdict → IsVerdict transcript history other → verdict ≡ other
-
--- each operation of the members was answered
-abbrev pub AreReplied : List TranscriptEntry → List TxnId → Type 0
-AreReplied transcript history = (operation : Operation) → IsIn (operations_of transcript history) operation → IsSome operation.outcome
-
--- where they were, Same says that the members differ, have COMMIT, and that their operations give the transcript's replies
-abbrev pub SameSaysReplay : Type 0
-SameSaysReplay = (transcript : List TranscriptEntry) (history : List TxnId) → AreReplied transcript history →
-    IsVerdict transcript history Same ↔ (AreFit (commands_of transcript) history × RepliesAgree no_values (operations_of transcript history))
-
--- a history that fits has the verdict Same
-abbrev pub FitIsSame : Type 0
-FitIsSame = (transcript : List TranscriptEntry) (history : List TxnId) → HistoryFits transcript history → IsVerdict transcript history Same

@@ -1,12 +1,15 @@
 //! The laws of transcripts and replays. A law is the contract of a function that does nothing.
-ghost use Rattle.cl_serial.specs.Laws.{EntryAddsItsQuestion, EntryAddsItsAnswer, EntryAddsItsLine, EntryAddsItsFault, EntryAddsItsRefusal, EntryAddsItsText, OtherEntryLeavesExchanges, QuestionAddsExchange, QuestionStepsSession, AnswerFillsExchange, AnswerStepsSession, HistoriesJoin, BackReplaysAfterFront, RepliesJoin};
-ghost use Rattle.cl_serial.specs.Verdict.{OneVerdict, SameSaysReplay, FitIsSame};
+ghost use Rattle.cl_serial.specs.Laws.{EntryAddsItsQuestion, EntryAddsItsAnswer, EntryAddsItsLine, EntryAddsItsFault, EntryAddsItsRefusal, EntryAddsItsText, OtherEntryLeavesExchanges, QuestionAddsExchange, QuestionStepsSession, AnswerFillsExchange, AnswerStepsSession, HistoriesJoin, BackReplaysAfterFront, RepliesJoin, OneVerdict, SameSaysReplay, FitIsSame, DifferenceStands};
 
-/// A history has one verdict on a transcript, and it is `Same` exactly where the history replays the transcript.
+/// A history has one verdict on a transcript.
+///
+/// It is `Same` where the history fits, and says no less where each operation was answered. A written outcome that
+/// differs stands in the transcript at its place.
 pub fn there_is_one_verdict()
     ensures one { OneVerdict }
     ensures same { SameSaysReplay }
     ensures fits { FitIsSame }
+    ensures stands { DifferenceStands }
 {}
 
 /// One more entry adds what it says, at its position: to each session what it asks and answers there, and to the whole

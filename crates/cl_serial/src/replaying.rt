@@ -122,11 +122,11 @@ fn judge(alloc: Global, sessions: &Sessions, history: &History) -> Result<Verdic
     }
 }
 
-/// Replays the members of a history on one plain map, and compares each reply that was written.
+/// Judges a history by a transcript: replays its members on one plain map, and compares each written reply.
 ///
-/// It takes nobody's word: what it judges by is the transcript and the history alone. An `ERR FULL` and an `ERR INTXN`
-/// are passed over, as is a command without a reply. One pass gathers the exchanges of each session.
-/// So the time is in proportion to the transcript and the history, with a logarithm for each look-up.
+/// The verdict rests on the two alone. `ERR FULL` and `ERR INTXN` are passed over. So is a command without a reply:
+/// its operation is done, and nothing is compared. One pass gathers the exchanges of each session. So the time is
+/// proportional to the transcript and the history, times a logarithm for each look-up.
 pub fn replay(
     alloc: Global,
     history: &History,

@@ -1,5 +1,4 @@
 use Rattle.std.proofs.Common.{◌≡◌, ℕ, map, take}
-use Rattle.cl_types.specs.AppendOnlyList.{entries}
 use Rattle.cl_serial.specs.Transcript.{transcript_entry}
 use Rattle.cl_serial.specs.Gathering.{log_at, log_of}
 use Rattle.cl_serial.proofs.gathering.gather_logs.Given as goal

@@ -1,13 +1,11 @@
 -- The pairs that are left, after one more question.
-use Rattle.std.proofs.Common.{◌≡◌, ℕ, List, [], ◌∷◌, ◌++◌, fold, Option, Some, None, IfOk, sym, ap, subst, ◌∙◌}
+use Rattle.std.proofs.Common.{◌≡◌, ℕ, List, [], ◌∷◌, fold, IfOk, sym, ap, subst, ◌∙◌}
 use Rattle.std.proofs.lemmas.List.{nil_from_length}
-use Rattle.std.specs.Option.{option_to_list}
 use Rattle.std.specs.Vec.Iter.{into_iter_items}
 use Rattle.cl_types.specs.declared.operations.Command.{Command}
 use Rattle.cl_types.specs.declared.answers.Outcome.{Outcome}
 use Rattle.cl_serial.specs.Exchanges.{unanswered, answered, pair_up, in_turn}
-use Rattle.cl_serial.specs.Transactions.{Session, session_step, new_session}
-use Rattle.cl_serial.specs.Gathering.{session_in}
+use Rattle.cl_serial.specs.Transactions.{Session, session_step}
 use Rattle.cl_serial.proofs.transactions.cut_session.Goals as goal
 
 -- what is left takes a session on

@@ -1,11 +1,9 @@
 -- At first each session has its log.
-use Rattle.std.proofs.Common.{◌≡◌, ℕ, List, [], Option, None, Some, refl, ap, ◌∙◌}
+use Rattle.std.proofs.Common.{◌≡◌, Option, None, Some, refl, ap, ◌∙◌}
 use Rattle.std.specs.Map.{lookup}
 use Rattle.std.specs.Ordering.{nat_cmp}
 use Rattle.std.specs.BTreeMap.{is_at, get}
-use Rattle.cl_types.specs.declared.growing_list.GrowingList.{GrowingList}
 use Rattle.cl_serial.specs.Exchanges.{pair_up, in_turn}
-use Rattle.cl_serial.specs.Transactions.{Transaction}
 use Rattle.cl_serial.specs.Gathering.{SessionLog, logged, transactions_in}
 use Rattle.cl_serial.proofs.Settled.{settled}
 use Rattle.cl_serial.proofs.transactions.cut_sessions.Goals as goal
