@@ -1,7 +1,8 @@
 //! What each session asked and was answered, gathered in one pass over a transcript.
 ghost use Rattle.std.specs.Prelude.{◌≡◌, ℕ, false, [], ◌∷◌, if◌then◌else◌, nat_eq, IfOk, OnOk};
-ghost use Rattle.cl_serial.specs.Transcript.{TranscriptEntry, fed, written, transcript_entry, transcript_of};
-ghost use Rattle.cl_serial.specs.Gathering.{SessionLog as Seen, log_at, log_of, with_more, with_entry};
+ghost use Rattle.cl_lines.specs.Line.{client_of};
+ghost use Rattle.cl_serial.specs.Transcript.{command_in, outcome_in, transcript_entry, transcript_of};
+ghost use Rattle.cl_serial.specs.Gathering.{log_at, log_of, with_more, with_entry};
 
 use crate::replies::copy_outcome;
 use crate::{Said, Transcript};
@@ -76,15 +77,9 @@ fn add_answer(
 }
 
 // Adds what a fed line asks.
-fn add_line(
-    alloc: Global,
-    logs: &mut Logs,
-    position: u64,
-    number: u64,
-    text: &[u8],
-) -> Result<(), NoMemory>
+fn add_line(alloc: Global, logs: &mut Logs, position: u64, text: &[u8]) -> Result<(), NoMemory>
     ensures { OnOk result ((session : ℕ) →
-        log_at logs.new session ≡ with_entry session position (fed number text.now) (log_at logs.old session)) }
+        log_at logs.new session ≡ with_more (log_at logs.old session) (command_in session position (client_of text.now)) []) }
 {
     match read_line(alloc, text) {
         Ok(Line::Client(session, command)) => add_question(
@@ -101,7 +96,7 @@ fn add_line(
 // Adds what a printed line answers.
 fn add_printed(alloc: Global, logs: &mut Logs, position: u64, out: &Out) -> Result<(), NoMemory>
     ensures { OnOk result ((session : ℕ) →
-        log_at logs.new session ≡ with_entry session position (written out.now) (log_at logs.old session)) }
+        log_at logs.new session ≡ with_more (log_at logs.old session) [] (outcome_in session position out.now)) }
 {
     match out {
         Out::Answer(session, outcome) => {
@@ -118,7 +113,7 @@ fn add_entry(alloc: Global, logs: &mut Logs, position: u64, entry: &Said) -> Res
         log_at logs.new session ≡ with_entry session position (transcript_entry entry.now) (log_at logs.old session)) }
 {
     match entry {
-        Said::In(number, text) => add_line(alloc, logs, position, *number, text.bytes()),
+        Said::In(_, text) => add_line(alloc, logs, position, text.bytes()),
         Said::Out(out) => add_printed(alloc, logs, position, out),
         Said::Quiet => Ok(()),
     }

@@ -1,4 +1,4 @@
-//! What a run said and what it must mean: the transcript, the history, the plain map and their laws.
+//! What a run said and what it must mean: the transcript, the history, the plain map, the verdict and their laws.
 #![tactic(auto)]
 
 mod exchange;

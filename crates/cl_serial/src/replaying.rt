@@ -5,7 +5,6 @@ ghost use Rattle.cl_serial.specs.Transcript.{transcript_of};
 ghost use Rattle.cl_serial.specs.Gathering.{commands_at};
 ghost use Rattle.cl_serial.specs.PlainMapModel.{value_at};
 ghost use Rattle.cl_serial.specs.Replaying.{Tells, Replays, replayed_commands};
-ghost use Rattle.cl_serial.specs.PlainMap.{no_values};
 ghost use Rattle.cl_serial.specs.Verdict.{VerdictOn, IsVerdict};
 
 use crate::exchange::Exchange;
