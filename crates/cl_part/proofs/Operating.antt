@@ -30,7 +30,7 @@ use Rattle.cl_store.specs.Store.{stored as stored_in}
 use Rattle.cl_part.specs.declared.part.Part.{Part}
 use Rattle.cl_locks.proofs.TableLaws.{first_conflict-table, held-table}
 use Rattle.cl_types.specs.declared.answers.Answer.TheVariants.{Done, Refused}
-use Rattle.cl_part.specs.Calls.{refusing, answer_by, answer_to, record_left, after_asked, after_op}
+use Rattle.cl_part.specs.Calls.{refusing, answer_by, answer_to, record_left, unless_refused, after_op}
 use Rattle.cl_part.specs.State.{State, IsStateOf, IsBelowNext, after_optional}
 use Rattle.cl_part.proofs.States.{IsStateOf-same, IsStateOf-recorded, IsBelowNext-same, IsBelowNext-recorded, next-same, next-recorded}
 use Rattle.cl_part.specs.Recorded.{IsSame, HasRecorded, HasRecordedOptional, HasAppended, HasAppendedOptional, HasWritten, next_entry, touched}
@@ -258,14 +258,14 @@ IsStateOf-granted old new state txn place op is free recorded =
     ap (λ (s : Stored). record_of txn place op s (held old.locks txn place)) (is.store place)
     ∙ ap (record_of txn place op (state.stored place)) (held-table old.locks state.grants txn place is.locks) in
     subst (IsStateOf new)
-    (ap (after_optional state) left ∙ ap (λ r. after_asked r state (record_left state txn place op)) (sym (refusing-is old state txn place op is ∙ free)))
+    (ap (after_optional state) left ∙ ap (λ r. after_optional state (unless_refused r (record_left state txn place op))) (sym (refusing-is old state txn place op is ∙ free)))
     (IsStateOf-optional old new state (record_of txn place op (stored_in old.store place) (held old.locks txn place)) recorded is)
 
 pub IsStateOf-refused : (old new : Part) (state : State) (txn : TxnId) (place : Place) (op : Op) (holder : TxnId) → IsStateOf old state →
     first_conflict (grants_at old.locks place) txn place (mode_of op) ≡ Some holder → IsSame old new → IsStateOf new (after_op state txn place op)
 unfolding after_op
 IsStateOf-refused old new state txn place op holder is held same =
-    subst (IsStateOf new) (ap (λ r. after_asked r state (record_left state txn place op)) (sym (refusing-is old state txn place op is ∙ held))) (IsStateOf-same old new state same is)
+    subst (IsStateOf new) (ap (λ r. after_optional state (unless_refused r (record_left state txn place op))) (sym (refusing-is old state txn place op is ∙ held))) (IsStateOf-same old new state same is)
 
 pub IsBelowNext-optional : (old new : Part) (content : Option LogRec) → HasRecordedOptional old new content → IsBelowNext old → IsBelowNext new
 IsBelowNext-optional old new None recorded below = IsBelowNext-same old new recorded below

@@ -1,5 +1,5 @@
 -- What a call did, and the state that it leaves.
-use Rattle.std.proofs.Common.{◌≡◌, ◌+◌, ◌≤◌, true, cond, eqb, ◌&&◌, List, [], ◌∷◌, ◌++◌, sym, ap, ◌∙◌, inl, inr, arith, Result, Ok, Err, OnOk, OnErr}
+use Rattle.std.proofs.Common.{◌≡◌, ◌+◌, ◌≤◌, true, cond, eqb, ◌&&◌, List, [], ◌∷◌, ◌++◌, sym, ap, ◌∙◌, inl, inr, arith, Result, Ok, Err, OnOk, OnErr, refl}
 use Rattle.std.proofs.lemmas.Bool.{cond-true, cond-false, cases_Bool, eq-eqb, and_from}
 use Rattle.cl_types.specs.declared.operations.Mode.TheVariants.{Exclusive}
 use Rattle.cl_types.specs.Places.{Place, Stored}
@@ -7,17 +7,17 @@ use Rattle.cl_log.specs.declared.records.LogRec.{LogRec}
 use Rattle.cl_log.specs.declared.records.LogRec.TheVariants.{Touch, Set, Add, End}
 use Rattle.cl_log.specs.LogEntry.{LogEntry}
 use Rattle.cl_log.specs.Kind.{writes, number_before}
-use Rattle.cl_log.specs.Log.{next_number}
+use Rattle.cl_log.specs.Log.{entries, next_number}
 use Rattle.cl_log.specs.Store.{written, stored_after, redo_by_guard}
 use Rattle.cl_locks.specs.Grants.{Grant}
 use Rattle.cl_locks.specs.Table.{grants_at, IsTableOf}
-use Rattle.cl_locks.proofs.TableLaws.{IsTableOf-granted, IsTableOf-released, IsTableOf-kept}
+use Rattle.cl_locks.proofs.TableLaws.{IsTableOf-all_grants, IsTableOf-granted, IsTableOf-released, IsTableOf-kept}
 use Rattle.cl_redo.specs.Condition.{MeetsWrite}
 use Rattle.cl_redo.specs.Redo.{grants_after}
 use Rattle.cl_store.specs.Store.{stored as stored_in}
 use Rattle.cl_part.specs.declared.part.Part.{Part}
 use Rattle.cl_part.specs.Recorded.{IsSame, HasRecorded, next_entry}
-use Rattle.cl_part.specs.State.{State, IsStateOf, IsBelowNext, grants_with, after_record}
+use Rattle.cl_part.specs.State.{EveryPartHasState, State, IsStateOf, IsBelowNext, grants_with, after_record}
 
 -- ---- the state
 
@@ -112,3 +112,10 @@ next-recorded old new content recorded = let next = recorded.next in omega (arit
 
 pub next-same : (old new : Part) → IsSame old new → next_number new.log ≤ next_number old.log + 1
 next-same old new same = let next = same.next in omega (arith, next)
+
+-- ---- each participant has a state
+
+pub every_part_has_state : EveryPartHasState
+every_part_has_state part =
+    let table = IsTableOf-all_grants part.locks in
+    (record { stored = stored_in part.store; log = entries part.log; next = next_number part.log; grants = table.0 }, record { store = λ place. refl; log = refl; next = refl; locks = table.1 })

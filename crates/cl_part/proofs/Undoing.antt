@@ -16,9 +16,9 @@ use Rattle.cl_log.proofs.LogWords.{IsNumberedFrom-entries}
 use Rattle.cl_log.proofs.Rest.{heads_of_number}
 use Rattle.cl_store.specs.Store.{stored as stored_in}
 use Rattle.cl_part.specs.declared.part.Part.{Part}
-use Rattle.cl_part.specs.Calls.{place_of, undo_now, after_undoing, after_undo, is_any, has_rest}
+use Rattle.cl_part.specs.Calls.{place_of, undo_now, first_undone, after_undo, is_any, has_rest}
 use Rattle.cl_part.specs.Recorded.{HasRecorded}
-use Rattle.cl_part.specs.State.{State, IsStateOf, after_record}
+use Rattle.cl_part.specs.State.{State, IsStateOf, after_record, after_optional}
 use Rattle.cl_part.proofs.States.{IsStateOf-recorded}
 
 -- it asks for no lock
@@ -89,12 +89,12 @@ has_rest-none entries txn none = ap is_any none
 
 pub after_undo-none : (state : State) (txn : TxnId) → rest_to_undo state.log txn ≡ [] → after_undo state txn ≡ state
 unfolding after_undo
-after_undo-none state txn none = ap (after_undoing state) none
+after_undo-none state txn none = ap (λ es. after_optional state (first_undone state es)) none
 
 pub after_undo-first : (state : State) (txn : TxnId) (first : LogEntry) (others : List LogEntry) → rest_to_undo state.log txn ≡ first ∷ others →
     after_undo state txn ≡ after_record state (undo_now state first)
 unfolding after_undo
-after_undo-first state txn first others rest = ap (after_undoing state) rest
+after_undo-first state txn first others rest = ap (λ es. after_optional state (first_undone state es)) rest
 
 pub IsStateOf-nothing_left : (part : Part) (state : State) (txn : TxnId) → IsStateOf part state → rest_to_undo (entries part.log) txn ≡ [] → IsStateOf part (after_undo state txn)
 IsStateOf-nothing_left part state txn is none =

@@ -34,14 +34,14 @@ answer_to state txn place op = answer_by (refusing state txn place op) (plain_re
 abbrev pub record_left : State → TxnId → Place → Op → Option LogRec
 record_left state txn place op = record_of txn place op (state.stored place) (mode_held state.grants txn place)
 
--- the state as it was where a transaction refuses the operation, and else with the record it leaves
-abbrev pub after_asked : Option TxnId → State → Option LogRec → State
-after_asked None state content = after_optional state content
-after_asked (Some holder) state content = state
+-- an operation that is refused leaves none
+abbrev pub unless_refused : Option TxnId → Option LogRec → Option LogRec
+unless_refused None content = content
+unless_refused (Some holder) content = None
 
--- an operation that is refused changes nothing
+-- its record is taken, where there is one
 unfoldable pub after_op : State → TxnId → Place → Op → State
-after_op state txn place op = after_asked (refusing state txn place op) state (record_left state txn place op)
+after_op state txn place op = after_optional state (unless_refused (refusing state txn place op) (record_left state txn place op))
 
 -- ---- the vote, and the end
 
@@ -65,14 +65,14 @@ place_of content = ([], [])
 abbrev pub undo_now : State → LogEntry → LogRec
 undo_now state entry = undo_of entry.content entry.number (state.stored (place_of entry.content)).0
 
--- the first of these writes is undone, where there is one
-abbrev pub after_undoing : State → List LogEntry → State
-after_undoing state [] = state
-after_undoing state (first ∷ others) = after_record state (undo_now state first)
+-- the compensation of the first of these entries, where there is one
+abbrev pub first_undone : State → List LogEntry → Option LogRec
+first_undone state [] = None
+first_undone state (first ∷ others) = Some (undo_now state first)
 
--- the first of the transaction's rest is undone, where there is one
+-- the first of what is left to undo of the transaction is undone
 unfoldable pub after_undo : State → TxnId → State
-after_undo state txn = after_undoing state (rest_to_undo state.log txn)
+after_undo state txn = after_optional state (first_undone state (rest_to_undo state.log txn))
 
 -- whether the list has an entry
 abbrev pub is_any : List LogEntry → Bool
@@ -91,6 +91,13 @@ pub data Call : Type 0 where
   prepare : TxnId → Call
   undo_one : TxnId → Call
   end : TxnId → Bool → Call
+
+-- the record that a call appends, if any
+abbrev pub record_of_call : State → Call → Option LogRec
+record_of_call state (ask_op txn place op) = unless_refused (refusing state txn place op) (record_left state txn place op)
+record_of_call state (prepare txn) = Some (Prepared txn)
+record_of_call state (undo_one txn) = first_undone state (rest_to_undo state.log txn)
+record_of_call state (end txn commit) = Some (End txn commit)
 
 -- the state after a call that does not run out of memory
 abbrev pub after_call : State → Call → State

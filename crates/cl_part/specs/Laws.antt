@@ -10,7 +10,7 @@ use Rattle.cl_log.specs.Rest.{rest_to_undo}
 use Rattle.cl_order.specs.Ledger.{Ledger, stored_at, IsOrdered}
 use Rattle.cl_order.specs.Steps.{Step, carry_out, prepare as append_prepared, join, undo, finish, after_steps, AreEnabled, MayFinish, MayJoin, new_ledger}
 use Rattle.cl_part.specs.Calls.{Call, ask_op, prepare, undo_one, end, refusing, answer_by, answer_to, undo_now, after_call}
-use Rattle.cl_part.specs.Sound.{IsSound}
+use Rattle.cl_part.specs.Sound.{IsReplicaOf}
 use Rattle.cl_part.specs.State.{State, new_state}
 
 -- the step of an operation, or none where a transaction refuses it
@@ -42,10 +42,9 @@ MayCall ledger v (prepare txn) = has_ended (ledger.logs v) txn ≡ false
 MayCall ledger v (undo_one txn) = MayWork ledger v txn
 MayCall ledger v (end txn commit) = MayFinish ledger v txn commit
 
--- the participant of a virtual node: it is sound, and has the log of the ledger
-pub record IsAt (ledger : Ledger) (v : ℕ) (state : State) : Type 0 where
-  pub sound : IsSound state
-  pub log : ledger.logs v ≡ state.log
+-- the participant of a virtual node: the log of the ledger is its full log
+abbrev pub IsAt : Ledger → ℕ → State → Type 0
+IsAt ledger v state = IsReplicaOf (ledger.logs v) state
 
 -- the steps of a call are enabled, and make of the ledger what the call makes of the participant
 pub record FollowsCall (ledger : Ledger) (v : ℕ) (state : State) (call : Call) : Type 0 where

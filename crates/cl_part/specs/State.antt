@@ -63,3 +63,7 @@ after_record state content = record {
 abbrev pub after_optional : State → Option LogRec → State
 after_optional state None = state
 after_optional state (Some content) = after_record state content
+
+-- each participant has a state
+abbrev pub EveryPartHasState : Type 0
+EveryPartHasState = (part : Part) → (state : State) × IsStateOf part state

@@ -7,5 +7,5 @@ mod part;
 mod target;
 
 pub use cl_types::Answer;
-pub use laws::{calls_are_steps, calls_keep_sound, rollback_continues};
+pub use laws::{calls_are_steps, calls_keep_sound, participants_have_states, rollback_continues};
 pub use part::Part;

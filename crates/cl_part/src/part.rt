@@ -68,7 +68,7 @@ impl Part {
 
     // Takes a record that asks for no lock, and gives its number.
     fn record(&mut self, content: LogRec) -> Result<u64, NoMemory>
-        requires room { next_number self.old.log ≤ LOG_NUMBER_MAX }
+        requires numbers { next_number self.old.log ≤ LOG_NUMBER_MAX }
         requires below { IsBelowNext self.old }
         requires unlocked { takes_lock content ≡ false }
         requires meets { (place : Place) → writes place content ≡ true
@@ -89,14 +89,14 @@ impl Part {
         Ok(number)
     }
 
-    /// Carries out an operation of the transaction at a place, unless another transaction holds a lock
-    /// in conflict there.
+    /// Carries out an operation of the transaction at a place, unless another transaction holds a
+    /// lock in conflict there.
     ///
-    /// `Refused` names the first holder in conflict, in order of grant. After `Refused` and `NoMemory`
-    /// all is as it was. The call looks the place up in the store and in the locks, and appends at
-    /// most one record. It allocates a fixed number of times, whatever there is.
+    /// `Refused` names the first holder in conflict, in order of grant. After `Refused` and
+    /// `NoMemory` all is as it was. The call looks the place up in the store and in the locks, and
+    /// appends at most one record. How often it allocates does not grow with what there is.
     pub fn ask_op(&mut self, txn: TxnId, table: &TableName, key: &Key, op: &Op) -> Answer
-        requires room { next_number self.old.log ≤ LOG_NUMBER_MAX }
+        requires numbers { next_number self.old.log ≤ LOG_NUMBER_MAX }
         requires below { IsBelowNext self.old }
         ensures answer { (before : State) → IsStateOf self.old before → result ≢ Answer.NoMemory
             → result ≡ answer_to before txn (table.now, key.now) op.now }
@@ -123,18 +123,21 @@ impl Part {
         key: &Key,
         op: &Op,
     ) -> Result<Reply, LockRefused>
-        requires room { next_number self.old.log ≤ LOG_NUMBER_MAX }
+        requires numbers { next_number self.old.log ≤ LOG_NUMBER_MAX }
         requires below { IsBelowNext self.old }
         ensures reply { let place : Place = (table.now, key.now) in
             IfOk result (λ reply. reply ≡ plain_reply op.now (stored self.old.store place).1) }
         ensures free { let place : Place = (table.now, key.now) in
-            OnOk result (first_conflict (grants_at self.old.locks place) txn place (mode_of op.now) ≡ None) }
+            OnOk result
+            (first_conflict (grants_at self.old.locks place) txn place (mode_of op.now) ≡ None) }
         ensures held { let place : Place = (table.now, key.now) in
             (holder : TxnId) → result ≡ Err (LockRefused.Held holder)
-            → first_conflict (grants_at self.old.locks place) txn place (mode_of op.now) ≡ Some holder }
+            → first_conflict (grants_at self.old.locks place) txn place (mode_of op.now)
+            ≡ Some holder }
         ensures recorded { let place : Place = (table.now, key.now) in
             OnOk result (HasRecordedOptional self.old self.new
-            (record_of txn place op.now (stored self.old.store place) (held self.old.locks txn place))) }
+            (record_of txn place op.now (stored self.old.store place)
+            (held self.old.locks txn place))) }
         ensures err { OnErr result (IsSame self.old self.new) }
     {
         let (before, old) = self.store.get(table, key);
@@ -162,7 +165,7 @@ impl Part {
 
     // Appends the record of a write, and makes it.
     fn write(&mut self, table: &TableName, key: &Key, content: LogRec, value: Option<Value>)
-        requires next { next_number self.old.log ≤ LOG_NUMBER_MAX }
+        requires numbers { next_number self.old.log ≤ LOG_NUMBER_MAX }
         requires below { IsBelowNext self.old }
         requires room { (1 ≤ room self.old.store) × (1 ≤ room_of_log self.old.log) }
         ensures { HasWritten self.old self.new (table.now, key.now) content value }
@@ -173,9 +176,10 @@ impl Part {
 
     // Appends a Touch where a lock was granted that is new or stronger.
     fn touch(&mut self, txn: TxnId, table: &TableName, key: &Key, mode: Mode, granted: Granted)
-        requires next { next_number self.old.log ≤ LOG_NUMBER_MAX }
+        requires numbers { next_number self.old.log ≤ LOG_NUMBER_MAX }
         requires room { 1 ≤ room_of_log self.old.log }
-        ensures { HasAppendedOptional self.old self.new (touched granted (LogRec.Touch txn table.now key.now mode)) }
+        ensures { HasAppendedOptional self.old self.new
+            (touched granted (LogRec.Touch txn table.now key.now mode)) }
     {
         if granted != Granted::Already {
             self.log
@@ -185,7 +189,7 @@ impl Part {
 
     /// Votes yes for the transaction: appends its Prepared, and gives the number of that record.
     pub fn prepare(&mut self, txn: TxnId) -> Result<u64, NoMemory>
-        requires room { next_number self.old.log ≤ LOG_NUMBER_MAX }
+        requires numbers { next_number self.old.log ≤ LOG_NUMBER_MAX }
         requires below { IsBelowNext self.old }
         ensures number { IfOk result (λ number. number ≡ next_number self.old.log) }
         ensures state { (before : State) → IsStateOf self.old before
@@ -201,7 +205,7 @@ impl Part {
     /// Ends the transaction, committed or not: appends its End, frees its locks, and gives the
     /// number of that record. A transaction that is not committed has nothing left to undo.
     pub fn end(&mut self, txn: TxnId, commit: bool) -> Result<u64, NoMemory>
-        requires room { next_number self.old.log ≤ LOG_NUMBER_MAX }
+        requires numbers { next_number self.old.log ≤ LOG_NUMBER_MAX }
         requires below { IsBelowNext self.old }
         requires undone { commit ≡ false → rest_to_undo (entries self.old.log) txn ≡ [] }
         ensures number { IfOk result (λ number. number ≡ next_number self.old.log) }
@@ -221,7 +225,7 @@ impl Part {
     /// It appends the compensation and writes the store. So a rollback that was cut off continues
     /// where its log ends. The call walks the log from its end, as `Log::rest_to_undo` does.
     pub fn undo_one(&mut self, txn: TxnId) -> Result<bool, NoMemory>
-        requires room { next_number self.old.log ≤ LOG_NUMBER_MAX }
+        requires numbers { next_number self.old.log ≤ LOG_NUMBER_MAX }
         requires below { IsBelowNext self.old }
         ensures undone { IfOk result (λ undone. undone ≡ has_rest (entries self.old.log) txn) }
         ensures state { (before : State) → IsStateOf self.old before

@@ -30,7 +30,8 @@ pub(crate) struct Target {
 impl Target {
     // A write of a whole value.
     fn set(&self, old: Option<Value>, new: Option<Value>) -> LogRec
-        ensures { result ≡ LogRec.Set self.now.txn self.now.table self.now.key self.now.before old new }
+        ensures { result
+            ≡ LogRec.Set self.now.txn self.now.table self.now.key self.now.before old new }
     {
         LogRec::Set(
             self.txn,
@@ -44,8 +45,8 @@ impl Target {
 
     // The record of a removal: none where there is no value.
     fn removal(&self, alloc: Global, old: Option<&Value>) -> Result<Option<LogRec>, NoMemory>
-        ensures { IfOk result (λ content. content ≡ removal_of self.now.txn (self.now.table, self.now.key)
-            self.now.before (option_copied old.entry) (Some Mode.Exclusive)) }
+        ensures { IfOk result (λ content. content ≡ removal_of self.now.txn
+            (self.now.table, self.now.key) self.now.before (option_copied old.entry) (Some Mode.Exclusive)) }
     {
         match old {
             Some(value) => Ok(Some(self.set(Some(value.copy(alloc)?), None))),
@@ -61,8 +62,8 @@ impl Target {
         amount: i64,
         reply: &Reply,
     ) -> Result<Option<LogRec>, NoMemory>
-        ensures { IfOk result (λ content. content ≡ addition_of self.now.txn (self.now.table, self.now.key)
-            (self.now.before, option_copied old.entry) amount reply.now (Some Mode.Exclusive)) }
+        ensures { IfOk result (λ content. content ≡ addition_of self.now.txn
+            (self.now.table, self.now.key) (self.now.before, option_copied old.entry) amount reply.now (Some Mode.Exclusive)) }
     {
         let Reply::Sum(sum) = reply else {
             return Ok(None);
@@ -88,8 +89,8 @@ impl Target {
         reply: &Reply,
     ) -> Result<Option<LogRec>, NoMemory>
         requires { reply.now ≡ plain_reply op.now (option_copied old) }
-        ensures { IfOk result (λ content. content ≡ record_of self.now.txn (self.now.table, self.now.key)
-            op.now (self.now.before, option_copied old.entry) (Some Mode.Exclusive)) }
+        ensures { IfOk result (λ content. content ≡ record_of self.now.txn
+            (self.now.table, self.now.key) op.now (self.now.before, option_copied old.entry) (Some Mode.Exclusive)) }
     {
         match op {
             Op::Get => Ok(None),

@@ -323,6 +323,34 @@ fn a_rollback_is_logged_step_by_step(rt: HostRuntime) -> Result<(), Fail> {
     Ok(())
 }
 
+// Votes for a transaction, and commits it: the numbers of the two records.
+fn commit(rt: &impl Abort, part: &mut Part, txn: TxnId) -> Result<(u64, u64), NoSample>
+    requires { IsBelowNext part.old }
+{
+    assert!(rt; part.log.last() < LOG_NUMBER_MAX);
+    let vote = part.prepare(txn)?;
+    assert!(rt; part.log.last() < LOG_NUMBER_MAX);
+    Ok((vote, part.end(txn, true)?))
+}
+
+#[test]
+fn a_vote_and_a_commit_are_logged(rt: HostRuntime) -> Result<(), Fail> {
+    let mut part = new_part(rt.alloc());
+    let is_written = write_twice(&rt, rt.alloc(), &mut part)?;
+    let is_logged = commit(&rt, &mut part, ONE)? == (3, 4)
+        && part
+            .log
+            .at(3)
+            .is_some_and(|found| *found == LogRec::Prepared(ONE))
+        && part
+            .log
+            .at(4)
+            .is_some_and(|found| *found == LogRec::End(ONE, true));
+    let is_left = holds(&part, ONE, b"b", None)? && stands(&part, b"b", 2, Some(b"7"))?;
+    assert!(rt; is_written && is_logged && is_left);
+    Ok(())
+}
+
 // A rollback is cut off after some steps by another transaction's write, and then goes on.
 #[test]
 fn a_rollback_goes_on_where_it_was_cut_off(rt: HostRuntime) -> Result<(), Fail> {
