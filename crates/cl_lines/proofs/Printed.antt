@@ -12,7 +12,7 @@ use Rattle.cl_types.specs.declared.answers.Outcome.{Outcome}
 use Rattle.cl_types.specs.declared.answers.Outcome.TheVariants.{Done, Begun, Committed, Aborted, NotTxn, InTxn, Full}
 use Rattle.cl_types.specs.Names.{is_between, is_value}
 use Rattle.cl_lines.specs.declared.line.LineFault.{LineFault}
-use Rattle.cl_lines.specs.declared.line.LineFault.TheVariants.{Words}
+use Rattle.cl_lines.specs.declared.line.LineFault.TheVariants.{Length, Words, Session, Table, Key, Value, Number}
 use Rattle.cl_lines.specs.declared.out.Out.{Out}
 use Rattle.cl_lines.specs.declared.out.Out.TheVariants.{Answer, BadLine}
 use Rattle.cl_lines.specs.Out.{txn_text, reply_text, cause_text, outcome_text, fault_text, printed, text_of}
@@ -87,7 +87,13 @@ outcome_clean session InTxn h = plain (codes "ERR INTXN") refl
 outcome_clean session Full h = plain (codes "ERR FULL") refl
 
 fault_clean : (fault : LineFault) → HasNoNewline (fault_text fault)
+fault_clean Length = plain (codes "LENGTH") refl
 fault_clean Words = plain (codes "WORDS") refl
+fault_clean Session = plain (codes "SESSION") refl
+fault_clean Table = plain (codes "TABLE") refl
+fault_clean Key = plain (codes "KEY") refl
+fault_clean Value = plain (codes "VALUE") refl
+fault_clean Number = plain (codes "NUMBER") refl
 
 -- what stands before the newline has none
 pub printed_clean : (out : Out) → ShowsLawfulValue out → HasNoNewline (printed out)

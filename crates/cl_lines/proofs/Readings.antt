@@ -1,6 +1,7 @@
 -- Between a reading and its parts: the client line, the fault.
-use Rattle.std.proofs.Common.{◌≡◌, ℕ, List, Some, None, Result, Ok, Err, ap}
+use Rattle.std.proofs.Common.{◌≡◌, ℕ, ◌≤◌, List, Some, None, Result, Ok, Err, ap}
 use Rattle.std.proofs.lemmas.Option.{some_pair_parts}
+use Rattle.cl_types.specs.declared.limits.TheConstants.{SESSIONS_MAX}
 use Rattle.cl_types.specs.declared.operations.Command.{Command}
 use Rattle.cl_lines.specs.declared.line.Line.{Line}
 use Rattle.cl_lines.specs.declared.line.Line.TheVariants.{Client}
@@ -42,7 +43,12 @@ line_of-client bytes session command e = client_part-Some (line_of bytes) sessio
 pub line_of-fault : (bytes : List ℕ) (fault : LineFault) → fault_of bytes ≡ Some fault → line_of bytes ≡ Err fault
 line_of-fault bytes fault e = fault_part-Some (line_of bytes) fault e
 
--- a client line is of session 1
-pub client_of-session : (bytes : List ℕ) (session : ℕ) (command : Command) → client_of bytes ≡ Some (session, command) → session ≡ 1
-client_of-session bytes session command e =
-    (spells_from_line bytes session command (line_of-client bytes session command e)).session_is
+-- a line that is read is of one of the sessions
+pub line_of-session : (bytes : List ℕ) (session : ℕ) (command : Command) → line_of bytes ≡ Ok (Client session command) → (1 ≤ session) × (session ≤ SESSIONS_MAX)
+line_of-session bytes session command e =
+    let spelled = spells_from_line bytes session command e in
+    (spelled.session_from, spelled.session_to)
+
+-- so is a client line
+pub client_of-session : (bytes : List ℕ) (session : ℕ) (command : Command) → client_of bytes ≡ Some (session, command) → (1 ≤ session) × (session ≤ SESSIONS_MAX)
+client_of-session bytes session command e = line_of-session bytes session command (line_of-client bytes session command e)

@@ -1,12 +1,13 @@
 -- What follows of lines and of what is printed.
-use Rattle.std.specs.Prelude.{◌≡◌, ◌≢◌, ℕ, ◌≤◌, true, ◌↔◌, List, [], ◌∷◌, ◌++◌, length, Ok, All}
+use Rattle.std.specs.Prelude.{◌≡◌, ◌≢◌, ℕ, ◌≤◌, true, ◌↔◌, List, [], ◌∷◌, ◌++◌, Ok, All}
 use Rattle.cl_types.specs.declared.operations.Command.{Command}
 use Rattle.cl_types.specs.declared.operations.Command.TheVariants.{Begin, Work, Commit, Abort}
 use Rattle.cl_types.specs.declared.operations.Op.TheVariants.{Get, Put, Del, Add}
 use Rattle.cl_types.specs.declared.answers.Reply.TheVariants.{Found}
 use Rattle.cl_types.specs.declared.answers.Outcome.TheVariants.{Done}
+use Rattle.cl_types.specs.declared.limits.TheConstants.{SESSIONS_MAX}
 use Rattle.cl_types.specs.Names.{is_table_name, is_key, is_value}
-use Rattle.cl_lines.specs.declared.line.TheConstants.{LINE_MAX}
+use Rattle.cl_types.specs.Decimal.{is_signed_64}
 use Rattle.cl_lines.specs.declared.line.Line.TheVariants.{Client}
 use Rattle.cl_lines.specs.declared.out.Out.{Out}
 use Rattle.cl_lines.specs.declared.out.Out.TheVariants.{Answer}
@@ -14,20 +15,20 @@ use Rattle.cl_lines.specs.Line.{line_of}
 use Rattle.cl_lines.specs.Spelling.{spelling}
 use Rattle.cl_lines.specs.Out.{text_of}
 
--- a command that a line can ask: the names of its record and the value that it writes are lawful
+-- a command that a line can ask: the names of its record, the value that it writes and the amount that it adds are lawful
 abbrev pub IsAskable : Command → Type 0
 IsAskable Begin = Unit {0}
 IsAskable (Work table key Get) = (is_table_name table ≡ true) × (is_key key ≡ true)
 IsAskable (Work table key (Put value)) = (is_table_name table ≡ true) × (is_key key ≡ true) × (is_value value ≡ true)
-IsAskable (Work table key Del) = ⊥
-IsAskable (Work table key (Add amount)) = ⊥
+IsAskable (Work table key Del) = (is_table_name table ≡ true) × (is_key key ≡ true)
+IsAskable (Work table key (Add amount)) = (is_table_name table ≡ true) × (is_key key ≡ true) × (is_signed_64 amount ≡ true)
 IsAskable Commit = Unit {0}
-IsAskable Abort = ⊥
+IsAskable Abort = Unit {0}
 
 -- the bytes are the line of this command in this session
 pub record Spells (bytes : List ℕ) (session : ℕ) (command : Command) : Type 0 where
-  pub within : length bytes ≤ LINE_MAX
-  pub session_is : session ≡ 1
+  pub session_from : 1 ≤ session
+  pub session_to : session ≤ SESSIONS_MAX
   pub askable : IsAskable command
   pub bytes_are : bytes ≡ spelling session command
 

@@ -9,7 +9,7 @@ use Rattle.cl_types.specs.declared.answers.AbortCause.TheVariants.{Conflict, Nod
 use Rattle.cl_types.specs.declared.answers.Outcome.{Outcome}
 use Rattle.cl_types.specs.declared.answers.Outcome.TheVariants.{Done, Begun, Committed, Aborted, NotTxn, InTxn, Full}
 use Rattle.cl_lines.specs.declared.line.LineFault.{LineFault}
-use Rattle.cl_lines.specs.declared.line.LineFault.TheVariants.{Words}
+use Rattle.cl_lines.specs.declared.line.LineFault.TheVariants.{Length, Words, Session, Table, Key, Value, Number}
 use Rattle.cl_lines.specs.declared.out.Out.{Out}
 use Rattle.cl_lines.specs.declared.out.Out.TheVariants.{Answer, BadLine}
 
@@ -45,7 +45,13 @@ outcome_text Full = codes "ERR FULL"
 
 -- the word of a fault
 abbrev pub fault_text : LineFault → List ℕ
+fault_text Length = codes "LENGTH"
 fault_text Words = codes "WORDS"
+fault_text Session = codes "SESSION"
+fault_text Table = codes "TABLE"
+fault_text Key = codes "KEY"
+fault_text Value = codes "VALUE"
+fault_text Number = codes "NUMBER"
 
 -- what is printed, but for the newline
 abbrev pub printed : Out → List ℕ

@@ -1,7 +1,8 @@
 //! The laws of the grammar and of printing. A law is the contract of a function that does nothing.
 ghost use Rattle.cl_lines.specs.Laws.{OneSpelling, PrintsOneLine};
 
-/// Each askable command has exactly one line in its session, and each line asks at most one command.
+/// Each askable command has exactly one line in each session, and each line asks at most one
+/// command.
 pub fn each_command_has_one_line()
     ensures { OneSpelling }
 {}

@@ -14,11 +14,24 @@ pub enum Line {
     Client(u32, Command),
 }
 
-/// Why a line is not well formed.
+/// Why a line is not well formed. A line is tested for each fault in this order, and has the first
+/// one that it shows.
 #[derive(Clone, Copy, Debug, PartialEq, Eq)]
 pub enum LineFault {
-    /// The line is too long, or its words are no form of a line.
+    /// The line is longer than `LINE_MAX`.
+    Length,
+    /// A word is empty, or the words are no form of a line.
     Words,
+    /// The first word is no number from 1 to `SESSIONS_MAX` in canonical decimal.
+    Session,
+    /// The third word is no table name.
+    Table,
+    /// The fourth word is no key.
+    Key,
+    /// The last word of a PUT is no value.
+    Value,
+    /// The last word of an ADD is no number within signed 64 bits in canonical decimal.
+    Number,
 }
 
 /// Why a line could not be read.

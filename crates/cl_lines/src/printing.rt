@@ -92,7 +92,13 @@ fn push_fault(text: &mut Vec<u8>, fault: LineFault) -> Result<(), NoMemory>
     ensures { OnOk result (text.new.items ≡ text.old.items ++ fault_text fault) }
 {
     match fault {
+        LineFault::Length => push_bytes(text, b"LENGTH"),
         LineFault::Words => push_bytes(text, b"WORDS"),
+        LineFault::Session => push_bytes(text, b"SESSION"),
+        LineFault::Table => push_bytes(text, b"TABLE"),
+        LineFault::Key => push_bytes(text, b"KEY"),
+        LineFault::Value => push_bytes(text, b"VALUE"),
+        LineFault::Number => push_bytes(text, b"NUMBER"),
     }
 }
 

@@ -1,103 +1,138 @@
-//! Reading a line.
-ghost use Rattle.std.specs.Prelude.{◌≡◌, [], ◌∷◌, if◌then◌else◌, Ok, Err};
-ghost use Rattle.cl_lines.specs.Line.{ReadsLine, session_number, command_of, line_of};
+//! Reading a line: first the form of its words, then its session, then the arguments in their order.
+ghost use Rattle.std.specs.Prelude.{◌≡◌, [], ◌∷◌, Ok, Err};
+ghost use Rattle.std.specs.List.{list_any};
+ghost use Rattle.std.specs.Option.{option_map};
+ghost use Rattle.cl_lines.specs.Words.{words, is_empty};
+ghost use Rattle.cl_lines.specs.Line.{ReadsLine, session_of, bare_command, bare_operation, operation_with, command_of, line_of};
+ghost use Rattle.cl_lines.specs.Forms.{operation_of, command_of_form};
 
 use crate::words::Words;
 use crate::{Command, LINE_MAX, Line, LineFault, Unread};
-use cl_types::{Key, Op, TableName, Value};
+use cl_types::{Key, Op, SESSIONS_MAX, TableName, Value, natural_of, number_of_text};
 use std::alloc::Global;
 
-// The answer where the words have no form.
-fn no_form<T>() -> Result<T, Unread>
-    ensures { result ≡ Err (Unread.Fault LineFault.Words) }
+// The verb of an operation on a record, with its argument as a word.
+#[derive(Clone, Copy)]
+enum Verb<'a> {
+    Get,
+    Put(&'a [u8]),
+    Del,
+    Add(&'a [u8]),
+}
+
+// The form of the words after the session: the verb, and its arguments as words.
+#[derive(Clone, Copy)]
+enum Form<'a> {
+    Begin,
+    Work(&'a [u8], &'a [u8], Verb<'a>),
+    Commit,
+    Abort,
+}
+
+// Whether a word of the line is empty.
+fn has_empty_word(text: &[u8]) -> bool
+    ensures { result ≡ list_any is_empty (words text.now) }
 {
-    Err(LineFault::Words.into())
+    Words::of(text).any(|word| word.is_empty())
+}
+
+// The form of one word.
+fn bare_form(verb: &[u8]) -> Option<Form<'_>>
+    ensures { option_map command_of_form result ≡ bare_command verb.now }
+{
+    if verb == b"BEGIN".as_slice() {
+        Some(Form::Begin)
+    } else if verb == b"COMMIT".as_slice() {
+        Some(Form::Commit)
+    } else if verb == b"ABORT".as_slice() {
+        Some(Form::Abort)
+    } else {
+        None
+    }
+}
+
+// The verb of an operation that has no argument.
+fn bare_verb(verb: &[u8]) -> Option<Verb<'_>>
+    ensures { option_map operation_of result ≡ bare_operation verb.now }
+{
+    if verb == b"GET".as_slice() {
+        Some(Verb::Get)
+    } else if verb == b"DEL".as_slice() {
+        Some(Verb::Del)
+    } else {
+        None
+    }
+}
+
+// The verb of an operation that has an argument.
+fn verb_with<'a>(verb: &[u8], argument: &'a [u8]) -> Option<Verb<'a>>
+    ensures { option_map operation_of result ≡ operation_with verb.now argument.now }
+{
+    if verb == b"PUT".as_slice() {
+        Some(Verb::Put(argument))
+    } else if verb == b"ADD".as_slice() {
+        Some(Verb::Add(argument))
+    } else {
+        None
+    }
+}
+
+// The form of the words after the session, if they have one.
+#[tactic(auto, unfolding(crate::specs::Line::command_of))]
+fn form_of<'a>(mut words: Words<'a>) -> Option<Form<'a>>
+    ensures { option_map command_of_form result ≡ command_of words.entry }
+{
+    let verb = words.next()?;
+    let Some(table) = words.next() else {
+        return bare_form(verb);
+    };
+    let key = words.next()?;
+    let Some(argument) = words.next() else {
+        return Some(Form::Work(table, key, bare_verb(verb)?));
+    };
+    if words.next().is_some() {
+        return None;
+    }
+    Some(Form::Work(table, key, verb_with(verb, argument)?))
 }
 
 // The session that a word names.
 fn read_session(word: &[u8]) -> Result<u32, Unread>
-    ensures { ReadsLine result (session_number word.now) }
+    ensures { ReadsLine result (session_of word.now) }
 {
-    if word == b"1".as_slice() {
-        Ok(1)
-    } else {
-        no_form()
+    let number = natural_of(word).ok_or(LineFault::Session)?;
+    match u32::try_from(number) {
+        Ok(session @ 1..=SESSIONS_MAX) => Ok(session),
+        _ => Err(LineFault::Session.into()),
     }
 }
 
-// The command of one word.
-#[tactic(auto, unfolding(crate::specs::Line::command_of))]
-fn read_bare(verb: &[u8]) -> Result<Command, Unread>
-    ensures { ReadsLine result (command_of (verb.now ∷ [])) }
+// The operation of a verb, whose argument is read.
+fn read_operation(alloc: Global, verb: Verb<'_>) -> Result<Op, Unread>
+    ensures { ReadsLine result (operation_of verb.entry) }
 {
-    if verb == b"BEGIN".as_slice() {
-        Ok(Command::Begin)
-    } else if verb == b"COMMIT".as_slice() {
-        Ok(Command::Commit)
-    } else {
-        no_form()
-    }
+    Ok(match verb {
+        Verb::Get => Op::Get,
+        Verb::Put(argument) => Op::Put(Value::read(alloc, argument)?.ok_or(LineFault::Value)?),
+        Verb::Del => Op::Del,
+        Verb::Add(argument) => Op::Add(number_of_text(argument).ok_or(LineFault::Number)?),
+    })
 }
 
-// The command on a record, without a value.
-#[tactic(auto, unfolding(crate::specs::Line::command_of))]
-fn read_get(verb: &[u8], table: &[u8], key: &[u8]) -> Result<Command, Unread>
-    ensures { ReadsLine result (command_of (verb.now ∷ table.now ∷ key.now ∷ [])) }
+// The command of a form, whose arguments are read in their order.
+fn read_command(alloc: Global, form: Form<'_>) -> Result<Command, Unread>
+    ensures { ReadsLine result (command_of_form form.entry) }
 {
-    if verb != b"GET".as_slice() {
-        return no_form();
+    match form {
+        Form::Begin => Ok(Command::Begin),
+        Form::Work(table, key, verb) => {
+            let table = TableName::read(table).ok_or(LineFault::Table)?;
+            let key = Key::read(key).ok_or(LineFault::Key)?;
+            Ok(Command::Work(table, key, read_operation(alloc, verb)?))
+        }
+        Form::Commit => Ok(Command::Commit),
+        Form::Abort => Ok(Command::Abort),
     }
-    match (TableName::read(table), Key::read(key)) {
-        (Some(table), Some(key)) => Ok(Command::Work(table, key, Op::Get)),
-        _ => no_form(),
-    }
-}
-
-// The command on a record, with a value.
-#[tactic(auto, unfolding(crate::specs::Line::command_of))]
-fn read_put(
-    alloc: Global,
-    verb: &[u8],
-    table: &[u8],
-    key: &[u8],
-    value: &[u8],
-) -> Result<Command, Unread>
-    ensures { ReadsLine result (command_of (verb.now ∷ table.now ∷ key.now ∷ value.now ∷ [])) }
-{
-    if verb != b"PUT".as_slice() {
-        return no_form();
-    }
-    match (
-        TableName::read(table),
-        Key::read(key),
-        Value::read(alloc, value)?,
-    ) {
-        (Some(table), Some(key), Some(value)) => Ok(Command::Work(table, key, Op::Put(value))),
-        _ => no_form(),
-    }
-}
-
-// The command of the words after the session.
-#[tactic(auto, unfolding(crate::specs::Line::command_of))]
-fn read_command(alloc: Global, mut words: Words<'_>) -> Result<Command, Unread>
-    ensures { ReadsLine result (command_of words.entry) }
-{
-    let Some(verb) = words.next() else {
-        return no_form();
-    };
-    let Some(table) = words.next() else {
-        return read_bare(verb);
-    };
-    let Some(key) = words.next() else {
-        return no_form();
-    };
-    let Some(value) = words.next() else {
-        return read_get(verb, table, key);
-    };
-    if words.next().is_some() {
-        return no_form();
-    }
-    read_put(alloc, verb, table, key, value)
 }
 
 /// Reads a line, given without its newline.
@@ -105,17 +140,19 @@ fn read_command(alloc: Global, mut words: Words<'_>) -> Result<Command, Unread>
 /// It allocates for the value of a PUT alone and runs in linear time; no contract says so.
 #[tactic(auto, unfolding(crate::specs::Line::line_of))]
 pub fn read_line(alloc: Global, text: &[u8]) -> Result<Line, Unread>
-    // The line that the bytes are, or their fault. An allocation may fail at any line.
+    // The line that the bytes are, or their first fault. An allocation may fail at any line.
     ensures { ReadsLine result (line_of text.now) }
 {
     if LINE_MAX < text.len() {
-        return no_form();
+        return Err(LineFault::Length.into());
+    }
+    if has_empty_word(text) {
+        return Err(LineFault::Words.into());
     }
     let mut words = Words::of(text);
-    let Some(session) = words.next() else {
-        return no_form();
-    };
+    let session = words.next().ok_or(LineFault::Words)?;
+    let form = form_of(words).ok_or(LineFault::Words)?;
     let session = read_session(session)?;
-    let command = read_command(alloc, words)?;
+    let command = read_command(alloc, form)?;
     Ok(Line::Client(session, command))
 }

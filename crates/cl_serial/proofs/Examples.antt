@@ -5,6 +5,7 @@ use Rattle.cl_types.specs.declared.operations.TxnId.{TxnId}
 use Rattle.cl_types.specs.declared.answers.Reply.TheVariants.{Stored, Found, Absent}
 use Rattle.cl_types.specs.declared.answers.Outcome.{Outcome}
 use Rattle.cl_types.specs.declared.answers.Outcome.TheVariants.{Done, Begun, Committed}
+use Rattle.cl_types.specs.Decimal.{natural, natural_64, in_unsigned_64}
 use Rattle.cl_lines.specs.declared.out.Out.TheVariants.{Answer}
 use Rattle.cl_lines.specs.Line.{line_of, command_of}
 use Rattle.cl_lines.specs.Words.{words}
@@ -35,15 +36,15 @@ name number = record { session = 1; number = number }
 operations-in_order : operations_of two_transactions (name 1 ∷ name 2 ∷ []) ≡
     record { place = (codes "t", codes "a"); op = Put (codes "x"); outcome = Some (Done Stored) }
     ∷ record { place = (codes "t", codes "a"); op = Get; outcome = Some (Done (Found (codes "x"))) } ∷ []
-unfolding gather pair_up in_turn session_step line_of command_of words
+unfolding gather pair_up in_turn session_step line_of command_of words natural_64 natural in_unsigned_64
 operations-in_order = refl
 
 -- that order gives the replies of the transcript
 pub in_order_agrees : RepliesAgree no_values (operations_of two_transactions (name 1 ∷ name 2 ∷ []))
-unfolding gather pair_up in_turn session_step line_of command_of words RepliesAgree
+unfolding gather pair_up in_turn session_step line_of command_of words natural_64 natural in_unsigned_64 RepliesAgree
 in_order_agrees = (refl, (refl, tt))
 
 -- the other order does not: the read would find nothing
 pub other_order_differs : RepliesAgree no_values (operations_of two_transactions (name 2 ∷ name 1 ∷ [])) → ⊥
-unfolding gather pair_up in_turn session_step line_of command_of words RepliesAgree
+unfolding gather pair_up in_turn session_step line_of command_of words natural_64 natural in_unsigned_64 RepliesAgree
 other_order_differs h = let first : Some (Done (Found (codes "x"))) ≡ Some (Done Absent) = h.0 in cc

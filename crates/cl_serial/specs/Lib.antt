@@ -9,3 +9,4 @@ pub mod Laws
 pub mod Gathering
 pub mod Verdict
 pub mod Replaying
+pub mod Causes

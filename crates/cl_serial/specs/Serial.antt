@@ -14,7 +14,7 @@ use Rattle.cl_lines.specs.declared.out.Out.TheVariants.{Answer, BadLine}
 use Rattle.cl_lines.specs.Line.{fault_of}
 use Rattle.cl_serial.specs.Transcript.{TranscriptEntry, fed, written, questions, answers, faulty_lines, refusals}
 use Rattle.cl_serial.specs.Exchanges.{Exchange, exchanges, outcome_of}
-use Rattle.cl_serial.specs.Transactions.{Transaction, Session, session_after, transaction_of, commands_of}
+use Rattle.cl_serial.specs.Transactions.{Transaction, Session, session_after, session_state, transaction_of, commands_in, commands_of}
 use Rattle.cl_serial.specs.PlainMap.{Values, Operation, operations, no_values, after_operations, RepliesAgree}
 
 -- x stands at this position of the list
@@ -127,6 +127,11 @@ pub record EveryLineAnswered (transcript : List TranscriptEntry) : Type 0 where
   pub answered : (session k : ℕ) (exchange : Exchange) → StandsAt (exchanges session transcript) k exchange → IsSome (outcome_of exchange)
   pub refused : (position line : ℕ) (text : List ℕ) (fault : LineFault) → StandsAt transcript position (fed line text) → fault_of text ≡ Some fault →
       (after : ℕ) × (position < after) × StandsAt transcript after (written (BadLine line fault))
+
+-- the operations of the transaction that a session is still in have the replies that this map gives
+abbrev pub OpenRepliesAgree : List TranscriptEntry → List TxnId → Type 0
+OpenRepliesAgree transcript history = (session : ℕ) →
+    RepliesAgree (values_after transcript history) (operations (commands_in (session_state session transcript).current))
 
 -- the guarantee: the history explains the transcript, one transaction after another
 pub record Serializable (transcript : List TranscriptEntry) (history : List TxnId) : Type 0 where

@@ -1,15 +1,3 @@
-pub mod Orders
-pub mod Turns
-pub mod Steps
-pub mod Pairs
-pub mod Standing
-pub mod Answered
-pub mod Unaborted
-pub mod Members
-pub mod Refused
-pub mod Lines
-pub mod Guarantee
-pub mod Asked
 pub mod FedLines
 pub mod Inputs
 pub mod Runs

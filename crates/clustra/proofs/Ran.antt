@@ -5,15 +5,17 @@ use Rattle.std.specs.Io.KnownBytes.{IsAtEnd}
 use Rattle.cl_types.specs.AppendOnlyList.{entries}
 use Rattle.cl_io.specs.Faults.{one_more}
 use Rattle.cl_io.proofs.ToldLemmas.{append_known-nil}
-use Rattle.cl_serial.specs.PlainMap.{no_values}
 use Rattle.cl_serial.specs.Transcript.{transcript_of, full_text}
-use Rattle.cl_serial.specs.Serial.{Serializable, EveryLineAnswered}
+use Rattle.cl_serial.specs.Serial.{Serializable, OpenRepliesAgree, EveryLineAnswered}
+use Rattle.cl_serial.specs.Causes.{TrueCauses}
+use Rattle.cl_part.specs.State.{new_state}
+use Rattle.cl_sessions.specs.Explains.{Explains}
+use Rattle.cl_sessions.proofs.Guarantee.{Explains-serving}
+use Rattle.cl_sessions.proofs.Served.{Serves-new}
 use Rattle.clustra.specs.declared.ended.TheConstants.{DONE, READ_FAULT, WRITE_FAULT, TOO_MUCH_INPUT, NO_MEMORY}
 use Rattle.clustra.specs.declared.ended.Kept.{Kept}
-use Rattle.clustra.specs.Run.{ReadsInput, OpenRepliesAgree, NeverAborts, WritesText, WritesAll}
-use Rattle.clustra.specs.RunEnds.{Explains, EndsSource, EndsSink, Ran}
-use Rattle.clustra.proofs.Guarantee.{Explains-served}
-use Rattle.clustra.proofs.Lines.{Served-start}
+use Rattle.clustra.specs.Run.{ReadsInput, WritesText, WritesAll}
+use Rattle.clustra.specs.RunEnds.{EndsSource, EndsSink, Ran}
 use Rattle.clustra.proofs.Runs.{ReadsInput-nothing}
 
 -- an allocation failed before anything was read
@@ -22,7 +24,7 @@ pub Ran-nothing : {S K : Type 0} (left_of : S → Option (List ℕ)) (source_fau
 Ran-nothing left_of source_faults written_of flushed_of sink_faults source sink status none = record {
   transcript = [];
   history = [];
-  explained = Explains-served [] [] no_values 0 None (Served-start no_values (λ place. refl));
+  explained = Explains-serving [] [] (new_state 1) Serves-new;
   nothing_fed = λ ended. (refl, refl);
   source_ends = record {
     read = ReadsInput-nothing status (left_of source) none;
@@ -47,7 +49,7 @@ pub Ran-kept : {S K : Type 0} (left_of : S → Option (List ℕ)) (source_faults
     (source source' : S) (sink sink' : K) (kept : Option Kept) (code status : ℕ) → code ≡ status → IsSome kept →
     IfSome kept (λ k. Serializable (transcript_of k.transcript) (entries k.history)) →
     IfSome kept (λ k. OpenRepliesAgree (transcript_of k.transcript) (entries k.history)) →
-    IfSome kept (λ k. NeverAborts (transcript_of k.transcript)) →
+    IfSome kept (λ k. TrueCauses (transcript_of k.transcript)) →
     IfSome kept (λ k. EveryLineAnswered (transcript_of k.transcript)) →
     IfSome kept (λ k. (status ≡ READ_FAULT) ⊎ (status ≡ TOO_MUCH_INPUT) → (transcript_of k.transcript ≡ []) × (entries k.history ≡ [])) →
     IfSome kept (λ k. ReadsInput status (left_of source) (left_of source') (transcript_of k.transcript)) →
@@ -59,13 +61,13 @@ pub Ran-kept : {S K : Type 0} (left_of : S → Option (List ℕ)) (source_faults
     ((status ≡ READ_FAULT → ⊥) → source_faults source' ≡ source_faults source) → ((status ≡ WRITE_FAULT → ⊥) → sink_faults sink' ≡ sink_faults sink) →
     (source_faults source ≤ source_faults source') × (sink_faults sink ≤ sink_faults sink') →
     Ran left_of source_faults written_of flushed_of sink_faults source source' sink sink' code
-Ran-kept left_of source_faults written_of flushed_of sink_faults source source' sink sink' None code status same some serializable open_replies unaborted answered nothing_fed read written all unwritten flushed end read_fault write_fault read_unfaulted write_unfaulted counted = absurd (cc)
-Ran-kept left_of source_faults written_of flushed_of sink_faults source source' sink sink' (Some k) code status same some serializable open_replies unaborted answered nothing_fed read written all unwritten flushed end read_fault write_fault read_unfaulted write_unfaulted counted =
+Ran-kept left_of source_faults written_of flushed_of sink_faults source source' sink sink' None code status same some serializable open_replies causes answered nothing_fed read written all unwritten flushed end read_fault write_fault read_unfaulted write_unfaulted counted = absurd (cc)
+Ran-kept left_of source_faults written_of flushed_of sink_faults source source' sink sink' (Some k) code status same some serializable open_replies causes answered nothing_fed read written all unwritten flushed end read_fault write_fault read_unfaulted write_unfaulted counted =
     let P : ℕ → Type 0 = λ n. Ran left_of source_faults written_of flushed_of sink_faults source source' sink sink' n in
     let ran : P status = record {
       transcript = transcript_of k.transcript;
       history = entries k.history;
-      explained = record { serializable = serializable; open_replies = open_replies; unaborted = unaborted; answered = answered };
+      explained = record { serializable = serializable; open_replies = open_replies; causes = causes; answered = answered };
       nothing_fed = nothing_fed;
       source_ends = record { read = read; end = end; read_fault = read_fault; unfaulted = read_unfaulted; counted = counted.0 };
       sink_ends = record { written = written; all = all; unwritten = unwritten; flushed = flushed; write_fault = write_fault; unfaulted = write_unfaulted; counted = counted.1 };

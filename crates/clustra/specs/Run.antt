@@ -1,14 +1,7 @@
 -- What a run of the server is: what it read, fed and wrote, and how it ended.
 use Rattle.std.specs.Prelude.{◌≡◌, ℕ, ◌⊎◌, ◌↔◌, List, [], ◌∷◌, take, codes, Option}
 use Rattle.std.specs.Io.KnownBytes.{append_known}
-use Rattle.cl_types.specs.declared.operations.TxnId.{TxnId}
-use Rattle.cl_types.specs.declared.answers.AbortCause.{AbortCause}
-use Rattle.cl_types.specs.declared.answers.Outcome.TheVariants.{Aborted}
-use Rattle.cl_lines.specs.declared.out.Out.TheVariants.{Answer}
-use Rattle.cl_serial.specs.Transcript.{TranscriptEntry, written, fed_lines}
-use Rattle.cl_serial.specs.Transactions.{session_state, commands_in}
-use Rattle.cl_serial.specs.PlainMap.{operations, RepliesAgree}
-use Rattle.cl_serial.specs.Serial.{StandsAt, values_after}
+use Rattle.cl_serial.specs.Transcript.{TranscriptEntry, fed_lines}
 use Rattle.cl_serial.specs.Bytes.{lines_of, FeedsFirstLines}
 use Rattle.clustra.specs.Input.{IsTooMuch, ReadsBytes}
 use Rattle.clustra.specs.declared.ended.TheConstants.{DONE, USAGE, READ_FAULT, WRITE_FAULT, TOO_MUCH_INPUT, NO_MEMORY}
@@ -28,15 +21,6 @@ pub record ReadsInput (status : ℕ) (before after : Option (List ℕ)) (transcr
   pub all_lines : status ≡ DONE → fed_lines transcript ≡ lines_of read
   -- the run is stopped for its input exactly where it is too much
   pub too_much : (status ≡ TOO_MUCH_INPUT) ↔ IsTooMuch read
-
--- the operations of the transaction that a session is still in have the replies that this map gives
-abbrev pub OpenRepliesAgree : List TranscriptEntry → List TxnId → Type 0
-OpenRepliesAgree transcript history = (session : ℕ) →
-    RepliesAgree (values_after transcript history) (operations (commands_in (session_state session transcript).current))
-
--- no transaction is aborted
-abbrev pub NeverAborts : List TranscriptEntry → Type 0
-NeverAborts transcript = (session position : ℕ) (cause : AbortCause) → StandsAt transcript position (written (Answer session (Aborted cause))) → ⊥
 
 -- what was written is a first part of the full text, perhaps none or all
 pub record WritesText (before after : Option (List ℕ)) (text : List ℕ) : Type 0 where

@@ -4,20 +4,9 @@ use Rattle.std.specs.Io.KnownBytes.{IsAtEnd}
 use Rattle.cl_types.specs.declared.operations.TxnId.{TxnId}
 use Rattle.cl_io.specs.Faults.{one_more}
 use Rattle.cl_serial.specs.Transcript.{TranscriptEntry, full_text}
-use Rattle.cl_serial.specs.Serial.{Serializable, EveryLineAnswered}
-use Rattle.clustra.specs.Run.{ReadsInput, OpenRepliesAgree, NeverAborts, WritesText, WritesAll}
+use Rattle.cl_sessions.specs.Explains.{Explains}
+use Rattle.clustra.specs.Run.{ReadsInput, WritesText, WritesAll}
 use Rattle.clustra.specs.declared.ended.TheConstants.{DONE, READ_FAULT, WRITE_FAULT, TOO_MUCH_INPUT, NO_MEMORY}
-
--- what is kept is explained and answered
-pub record Explains (transcript : List TranscriptEntry) (history : List TxnId) : Type 0 where
-  -- the history explains the transcript
-  pub serializable : Serializable transcript history
-  -- an open transaction replies on the map after the history
-  pub open_replies : OpenRepliesAgree transcript history
-  -- no transaction is aborted
-  pub unaborted : NeverAborts transcript
-  -- every line that was fed is answered
-  pub answered : EveryLineAnswered transcript
 
 -- what a run that ended with this status did with its source, by what the source tells
 pub record EndsSource {S : Type 0} (left_of : S → Option (List ℕ)) (faults_of : S → ℕ) (before after : S) (status : ℕ) (transcript : List TranscriptEntry) : Type 0 where

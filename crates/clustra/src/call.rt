@@ -4,8 +4,9 @@ ghost use Rattle.cl_types.specs.AppendOnlyList.{entries};
 ghost use Rattle.cl_io.specs.Faults.{one_more};
 ghost use Rattle.std.specs.Io.KnownBytes.{IsAtEnd};
 ghost use Rattle.cl_serial.specs.Transcript.{transcript_of, full_text};
-ghost use Rattle.cl_serial.specs.Serial.{Serializable, EveryLineAnswered};
-ghost use Rattle.clustra.specs.Run.{AreServe, ReadsInput, OpenRepliesAgree, NeverAborts, WritesText, WritesAll, IsEndStatus};
+ghost use Rattle.cl_serial.specs.Serial.{OpenRepliesAgree, Serializable, EveryLineAnswered};
+ghost use Rattle.cl_serial.specs.Causes.{TrueCauses};
+ghost use Rattle.clustra.specs.Run.{AreServe, ReadsInput, WritesText, WritesAll, IsEndStatus};
 
 use crate::ended::{DONE, Ended, NO_MEMORY, READ_FAULT, TOO_MUCH_INPUT, USAGE, WRITE_FAULT};
 use crate::serving::serve;
@@ -45,9 +46,9 @@ pub fn clustra<R: Threads + Wait + Sync, S: Source, K: Sink, G: Gate + Sync>(
     // The kept history explains the kept transcript, one transaction after another.
     ensures serializable { IfSome result.kept (λ kept. Serializable (transcript_of kept.transcript) (entries kept.history)) }
 
-    // A transaction that has not ended replies on the map after the history, and none is aborted.
+    // A transaction that has not ended replies on the map after the history, and each ABORTED names a true cause.
     ensures open_replies { IfSome result.kept (λ kept. OpenRepliesAgree (transcript_of kept.transcript) (entries kept.history)) }
-    ensures unaborted { IfSome result.kept (λ kept. NeverAborts (transcript_of kept.transcript)) }
+    ensures causes { IfSome result.kept (λ kept. TrueCauses (transcript_of kept.transcript)) }
 
     // Every line that was fed is answered. After a read that failed and after too much input none was.
     ensures answered { IfSome result.kept (λ kept. EveryLineAnswered (transcript_of kept.transcript)) }

@@ -1,11 +1,14 @@
 //! The lines of the input, one after another.
-ghost use Rattle.std.specs.Prelude.{◌≡◌, ℕ, ◌<◌, [], ◌∷◌, length, OnOk};
+ghost use Rattle.std.specs.Prelude.{◌≡◌, ℕ, ◌<◌, ◌≤◌, [], ◌∷◌, length, OnOk};
 ghost use Rattle.cl_serial.specs.Transcript.{transcript_of, fed_lines};
 ghost use Rattle.cl_serial.specs.Bytes.{whole_lines, kept_line, lines_of, FeedsFirstLines};
-ghost use Rattle.clustra.specs.Server.{IsServing};
+ghost use Rattle.cl_types.specs.AppendOnlyList.{entries};
+ghost use Rattle.cl_sessions.specs.Server.{IsServing};
+ghost use Rattle.cl_sessions.specs.Explains.{Explains};
 
-use crate::server::Server;
+use crate::limits::BYTES_MAX;
 use cl_lines::LINE_MAX;
+use cl_sessions::Server;
 use cl_types::NoMemory;
 use std::alloc::Global;
 
@@ -38,8 +41,8 @@ fn shortened(line: &[u8]) -> &[u8]
 pub(crate) fn feed_lines(alloc: Global, server: &mut Server, bytes: &[u8]) -> Result<(), NoMemory>
     requires serving { IsServing server.old }
     requires unfed { transcript_of server.old.transcript ≡ [] }
-    requires unbegun { server.old.begun ≡ 0 }
-    ensures serving { IsServing server.new }
+    requires short { length bytes.now ≤ BYTES_MAX }
+    ensures explained { Explains (transcript_of server.new.transcript) (entries server.new.history) }
     ensures first { FeedsFirstLines (transcript_of server.new.transcript) bytes.now }
     ensures all { OnOk result (fed_lines (transcript_of server.new.transcript) ≡ lines_of bytes.now) }
 {

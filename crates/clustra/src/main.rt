@@ -13,7 +13,6 @@ mod feeding;
 mod input;
 mod limits;
 mod output;
-mod server;
 mod serving;
 #[cfg(test)]
 mod tests;

@@ -1,19 +1,21 @@
 //! The command `serve`: reads the whole input, answers its lines, and writes the answers.
-ghost use Rattle.std.specs.Prelude.{◌≡◌, ◌⊎◌, ◌↔◌, []};
+ghost use Rattle.std.specs.Prelude.{◌≡◌, ◌≤◌, ◌⊎◌, ◌↔◌, [], length};
 ghost use Rattle.cl_types.specs.AppendOnlyList.{entries};
 ghost use Rattle.cl_serial.specs.Transcript.{transcript_of, fed_lines, full_text};
 ghost use Rattle.cl_serial.specs.Bytes.{lines_of, FeedsFirstLines};
-ghost use Rattle.clustra.specs.Server.{IsServing};
+ghost use Rattle.cl_sessions.specs.Server.{IsServing};
+ghost use Rattle.cl_sessions.specs.Explains.{Explains};
 ghost use Rattle.clustra.specs.Run.{IsEndStatus};
-ghost use Rattle.clustra.specs.RunEnds.{Explains, EndsSource, EndsSink};
+ghost use Rattle.clustra.specs.RunEnds.{EndsSource, EndsSink};
 
 use crate::ended::{DONE, Kept, NO_MEMORY, READ_FAULT, TOO_MUCH_INPUT, WRITE_FAULT};
 use crate::feeding::feed_lines;
 use crate::input::{InputFault, read_input};
+use crate::limits::BYTES_MAX;
 use crate::output::text_of_transcript;
-use crate::server::Server;
 use cl_io::{Sink, Source, write_all};
 use cl_serial::Transcript;
+use cl_sessions::Server;
 use std::alloc::Global;
 
 // Writes the full text of the transcript and returns the status.
@@ -37,8 +39,8 @@ fn write_transcript<K: Sink>(alloc: Global, transcript: &Transcript, sink: &mut 
 fn answer_input<K: Sink>(alloc: Global, server: &mut Server, bytes: &[u8], sink: &mut K) -> u8
     requires serving { IsServing server.old }
     requires unfed { transcript_of server.old.transcript ≡ [] }
-    requires unbegun { server.old.begun ≡ 0 }
-    ensures serving { IsServing server.new }
+    requires short { length bytes.now ≤ BYTES_MAX }
+    ensures explained { Explains (transcript_of server.new.transcript) (entries server.new.history) }
     ensures first { FeedsFirstLines (transcript_of server.new.transcript) bytes.now }
     ensures lines { result ≡ DONE → fed_lines (transcript_of server.new.transcript) ≡ lines_of bytes.now }
     ensures sink { EndsSink K.written K.flushed K.faults sink.old sink.new result (full_text (transcript_of server.new.transcript)) }
@@ -67,8 +69,7 @@ fn status_of_fault(fault: InputFault) -> u8
 fn run<S: Source, K: Sink>(alloc: Global, server: &mut Server, source: &mut S, sink: &mut K) -> u8
     requires serving { IsServing server.old }
     requires unfed { transcript_of server.old.transcript ≡ [] }
-    requires unbegun { server.old.begun ≡ 0 }
-    ensures serving { IsServing server.new }
+    ensures explained { Explains (transcript_of server.new.transcript) (entries server.new.history) }
     ensures nothing_fed { (result ≡ READ_FAULT) ⊎ (result ≡ TOO_MUCH_INPUT) → server.new ≡ server.old }
     ensures source { EndsSource S.left S.faults source.old source.new result (transcript_of server.new.transcript) }
     ensures sink { EndsSink K.written K.flushed K.faults sink.old sink.new result (full_text (transcript_of server.new.transcript)) }
@@ -91,5 +92,12 @@ pub(crate) fn serve<S: Source, K: Sink>(alloc: Global, source: &mut S, sink: &mu
 {
     let mut server = Server::new(alloc);
     let status = run(alloc, &mut server, source, sink);
-    (status, server.into_kept())
+    let (transcript, history) = server.into_parts();
+    (
+        status,
+        Kept {
+            transcript,
+            history,
+        },
+    )
 }

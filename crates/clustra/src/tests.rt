@@ -81,17 +81,11 @@ const FIRST_TRANSACTION: &[u8] = b"1 BEGIN\n1 PUT t a x\n1 GET t a\n1 COMMIT\n";
 
 const REPLIES: &[u8] = b"1 OK\n1 OK\n1 VAL x\n1 COMMITTED\n";
 
-const OUT_OF_TURN: &[u8] = b"1 GET t a\n1 COMMIT\n1 BEGIN\n1 BEGIN\n1 ABORT\n2 BEGIN\n";
-
-const REFUSALS: &[u8] =
-    b"1 ERR NOTXN\n1 ERR NOTXN\n1 OK\n1 ERR INTXN\n* ERR LINE 5 WORDS\n* ERR LINE 6 WORDS\n";
-
 #[test]
 fn runs_end_as_they_must(rt: HostRuntime) -> Result<(), Fail> {
     let cases = [
         served("no input", b"", b""),
         served("a transaction", FIRST_TRANSACTION, REPLIES),
-        served("lines out of turn", OUT_OF_TURN, REFUSALS),
         Case {
             word: "demo",
             status: USAGE,
@@ -122,6 +116,104 @@ fn runs_end_as_they_must(rt: HostRuntime) -> Result<(), Fail> {
         let holds = ends_so(&rt, rt.alloc(), case)?;
         assert!(rt; holds, "{}", case.name);
     }
+    Ok(())
+}
+
+// What is fed, and what must be written: worked by hand from the rules of sessions, locks and operations.
+const OUTSIDE: (&[u8], &[u8]) = (
+    b"1 GET t a\n1 COMMIT\n1 ABORT\n1 BEGIN\n1 BEGIN\n",
+    b"1 ERR NOTXN\n1 ERR NOTXN\n1 ERR NOTXN\n1 OK\n1 ERR INTXN\n",
+);
+
+const CONFLICT: (&[u8], &[u8]) = (
+    b"2 BEGIN\n2 PUT t a x\n3 BEGIN\n3 GET t a\n3 GET t a\n",
+    b"2 OK\n2 OK\n3 OK\n3 ABORTED CONFLICT 2.1\n3 ERR NOTXN\n",
+);
+
+const SHARED: (&[u8], &[u8]) = (
+    b"2 BEGIN\n3 BEGIN\n2 GET t a\n3 GET t a\n2 COMMIT\n3 COMMIT\n",
+    b"2 OK\n3 OK\n2 NONE\n3 NONE\n2 COMMITTED\n3 COMMITTED\n",
+);
+
+const STRONGER: (&[u8], &[u8]) = (
+    b"2 BEGIN\n3 BEGIN\n2 GET t a\n3 GET t a\n2 PUT t a x\n3 COMMIT\n",
+    b"2 OK\n3 OK\n2 NONE\n3 NONE\n2 ABORTED CONFLICT 3.1\n3 COMMITTED\n",
+);
+
+const SUM_OUT_OF_RANGE: (&[u8], &[u8]) = (
+    b"1 BEGIN\n1 ADD t c 5\n1 ADD t c 9223372036854775807\n1 GET t c\n1 COMMIT\n",
+    b"1 OK\n1 NUM 5\n1 ERR RANGE\n1 VAL 5\n1 COMMITTED\n",
+);
+
+const NO_NUMBERS: (&[u8], &[u8]) = (
+    b"1 BEGIN\n1 PUT t c x\n1 ADD t c 1\n1 PUT t c 007\n1 ADD t c 1\n1 DEL t c\n1 DEL t c\n1 ADD t c -3\n1 COMMIT\n",
+    b"1 OK\n1 OK\n1 ERR NOTNUM\n1 OK\n1 ERR NOTNUM\n1 OK\n1 NONE\n1 NUM -3\n1 COMMITTED\n",
+);
+
+const ROLLBACK: (&[u8], &[u8]) = (
+    b"1 BEGIN\n1 PUT t a 1\n1 PUT t b 1\n1 PUT t c 1\n1 PUT t d 1\n1 ABORT\n1 BEGIN\n1 GET t a\n1 GET t b\n1 GET t c\n1 GET t d\n",
+    b"1 OK\n1 OK\n1 OK\n1 OK\n1 OK\n1 ABORTED CLIENT\n1 OK\n1 NONE\n1 NONE\n1 NONE\n1 NONE\n",
+);
+
+const CREDIT: (&[u8], &[u8]) = (
+    b"7 BEGIN\n7 PUT sub 4790123456 cell.0412\n7 ADD credit 4790123456 5000\n7 ADD credit 4790123456 -150\n7 COMMIT\n8 BEGIN\n8 GET sub 4790123456\n8 GET credit 4790123456\n8 COMMIT\n",
+    b"7 OK\n7 OK\n7 NUM 5000\n7 NUM 4850\n7 COMMITTED\n8 OK\n8 VAL cell.0412\n8 VAL 4850\n8 COMMITTED\n",
+);
+
+const FAULTS: (&[u8], &[u8]) = (
+    b"\n0 BEGIN\n65 BEGIN\n01 BEGIN\n1 begin\n1  BEGIN\n1 GET T a\n1 GET t a\r\n1 ADD t a 05\n1 ADD t a -0\n",
+    b"* ERR LINE 1 WORDS\n* ERR LINE 2 SESSION\n* ERR LINE 3 SESSION\n* ERR LINE 4 SESSION\n* ERR LINE 5 WORDS\n* ERR LINE 6 WORDS\n* ERR LINE 7 TABLE\n* ERR LINE 8 KEY\n* ERR LINE 9 NUMBER\n* ERR LINE 10 NUMBER\n",
+);
+
+#[test]
+fn sessions_are_answered(rt: HostRuntime) -> Result<(), Fail> {
+    let rows = [
+        ("commands outside a transaction", OUTSIDE),
+        ("a conflict aborts, and names its holder", CONFLICT),
+        ("shared locks do not conflict", SHARED),
+        ("a stronger lock conflicts with a shared one", STRONGER),
+        ("a sum out of range leaves the value", SUM_OUT_OF_RANGE),
+        ("a value that is no number stays", NO_NUMBERS),
+        ("an abort undoes each write", ROLLBACK),
+        ("a subscriber and a credit", CREDIT),
+        ("each fault has its name", FAULTS),
+    ];
+    for (name, (input, output)) in rows {
+        let holds = ends_so(&rt, rt.alloc(), &served(name, input, output))?;
+        assert!(rt; holds, "{name}");
+    }
+    Ok(())
+}
+
+/// A line with a front, one byte so many times, and a back.
+fn long_line(
+    alloc: Global,
+    (front, byte, times, back): (&[u8], u8, usize, &[u8]),
+) -> Result<Vec<u8>, AllocError> {
+    let mut line = Vec::from_slice(alloc, front)?;
+    line.extend_from_slice(&vec![in alloc; byte; times]?)?;
+    line.extend_from_slice(back)?;
+    Ok(line)
+}
+
+#[test]
+fn lengths_have_their_limits(rt: HostRuntime) -> Result<(), Fail> {
+    let parts = [
+        (b"1 PUT t ".as_slice(), b'k', 32, b" x\n".as_slice()),
+        (b"1 PUT t ", b'k', 33, b" x\n"),
+        (b"1 PUT t k ", b'v', 128, b"\n"),
+        (b"1 PUT t k ", b'v', 129, b"\n"),
+        (b"1 PUT t k ", b'v', 246, b"\n"),
+        (b"1 PUT t k ", b'v', 247, b"\n"),
+    ];
+    let mut input = Vec::from_slice(rt.alloc(), b"1 BEGIN\n")?;
+    for part in parts {
+        input.extend_from_slice(&long_line(rt.alloc(), part)?)?;
+    }
+    let output =
+        b"1 OK\n1 OK\n* ERR LINE 3 KEY\n1 OK\n* ERR LINE 5 VALUE\n* ERR LINE 6 VALUE\n* ERR LINE 7 LENGTH\n";
+    let holds = ends_so(&rt, rt.alloc(), &served("long lines", &input, output))?;
+    assert!(rt; holds);
     Ok(())
 }
 

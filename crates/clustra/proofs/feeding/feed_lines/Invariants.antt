@@ -1,6 +1,6 @@
-use Rattle.std.proofs.Common.{◌+◌, ◌≤◌, length}
+use Rattle.std.proofs.Common.{◌+◌, ◌*◌, ◌≤◌, length}
 use Rattle.cl_serial.specs.Transcript.{transcript_of}
-use Rattle.clustra.specs.Server.{IsServing}
+use Rattle.cl_sessions.specs.Server.{IsServing}
 use Rattle.clustra.proofs.FedLines.{FedSoFar}
 use Rattle.clustra.proofs.feeding.feed_lines.Given as goal
 
@@ -9,7 +9,7 @@ abbrev pub invariant-loop-rest : goal.invariant-loop-rest
 invariant-loop-rest l = record {
   serving : IsServing l.server;
   so_far : FedSoFar (transcript_of l.server.transcript) l.number l.rest l.bytes;
-  few : l.server.begun ≤ l.number;
+  few : length (transcript_of l.server.transcript) ≤ 2 * l.number;
   bytes_left : l.number + length l.rest ≤ length l.bytes;
 }
 

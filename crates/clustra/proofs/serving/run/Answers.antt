@@ -2,6 +2,7 @@
 use Rattle.std.proofs.Common.{◌≡◌, ◌∙◌, Err, ap, sym}
 use Rattle.clustra.specs.declared.input.InputFault.TheVariants.{Read}
 use Rattle.clustra.proofs.Runs.{ReadsInput-fault, not_done}
+use Rattle.cl_sessions.proofs.Serving.{Explains-at}
 use Rattle.clustra.proofs.serving.run.Goals as goal
 
 pub returns-in-Err-clause-source : goal.returns-in-Err-clause-source
@@ -12,3 +13,6 @@ returns-in-Err-clause-source g c = record {
   unfaulted = λ other. c.read_input.ensures.unfaulted (λ is. other (c.status_of_fault.ensures.read.1 (let same : Err c.in-Err.fault ≡ Err Read = sym c.in-Err.is ∙ is in cc)));
   counted = c.read_input.ensures.counted;
 }
+
+pub returns-in-Err-clause-explained : goal.returns-in-Err-clause-explained
+returns-in-Err-clause-explained g c = Explains-at c.args.server.now _ c.requires.serving

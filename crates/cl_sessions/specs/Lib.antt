@@ -1,0 +1,4 @@
+pub mod Explains
+pub mod Serving
+pub mod Server
+pub mod Turn
