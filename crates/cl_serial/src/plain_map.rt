@@ -31,8 +31,8 @@ impl Model for RecordPlace {
 
 /// A map from places, each a table and a key, to values. Contracts see it as a finite map.
 ///
-/// The server runs on it today: each command is done on one `PlainMap`, in the order of the lines. The guarantee
-/// replays a history on the same map.
+/// The checker replays histories on it, and the guarantee speaks of such maps. The server itself keeps
+/// a store, a log and locks.
 #[derive(Debug, Drop)]
 pub struct PlainMap {
     values: BTreeMap<RecordPlace, Value>,
