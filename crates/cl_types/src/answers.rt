@@ -1,5 +1,8 @@
 //! The answers to operations, commands and requests, and why a request is refused.
-use crate::{TxnId, Value};
+ghost use Rattle.std.specs.Prelude.{◌≡◌, IfOk};
+
+use crate::{NoMemory, TxnId, Value};
+use std::alloc::Global;
 
 /// The reply to an operation that was done.
 #[derive(Debug, PartialEq, Eq, Drop)]
@@ -89,4 +92,50 @@ pub enum Refused {
     NoMemory,
     /// A counter is at its last value.
     Spent,
+}
+
+impl Reply {
+    /// Another reply of the same content. It allocates only for a value.
+    pub fn copy(&self, alloc: Global) -> Result<Reply, NoMemory>
+        ensures { IfOk result (λ copy. copy ≡ self.now) }
+    {
+        Ok(match self {
+            Reply::Stored => Reply::Stored,
+            Reply::Found(value) => Reply::Found(value.copy(alloc)?),
+            Reply::Absent => Reply::Absent,
+            Reply::Sum(sum) => Reply::Sum(*sum),
+            Reply::NotNumber => Reply::NotNumber,
+            Reply::OutOfRange => Reply::OutOfRange,
+        })
+    }
+}
+
+impl Answer {
+    /// Another answer of the same content. It allocates only for a value.
+    pub fn copy(&self, alloc: Global) -> Result<Answer, NoMemory>
+        ensures { IfOk result (λ copy. copy ≡ self.now) }
+    {
+        Ok(match self {
+            Answer::Done(reply) => Answer::Done(reply.copy(alloc)?),
+            Answer::Refused(holder) => Answer::Refused(*holder),
+            Answer::NoMemory => Answer::NoMemory,
+        })
+    }
+}
+
+impl Outcome {
+    /// Another outcome of the same content. It allocates only for a value.
+    pub fn copy(&self, alloc: Global) -> Result<Outcome, NoMemory>
+        ensures { IfOk result (λ copy. copy ≡ self.now) }
+    {
+        Ok(match self {
+            Outcome::Done(reply) => Outcome::Done(reply.copy(alloc)?),
+            Outcome::Begun => Outcome::Begun,
+            Outcome::Committed => Outcome::Committed,
+            Outcome::Aborted(cause) => Outcome::Aborted(*cause),
+            Outcome::NotTxn => Outcome::NotTxn,
+            Outcome::InTxn => Outcome::InTxn,
+            Outcome::Full => Outcome::Full,
+        })
+    }
 }

@@ -1,7 +1,9 @@
 //! What a client asks: transactions, operations and commands.
+ghost use Rattle.std.specs.Prelude.{◌≡◌, IfOk};
 ghost use Rattle.cl_types.specs.Modes.{StrongerIsStrongest, StrongerIsMonotone, StrongerConflictsMore, ConflictIsSymmetric};
 
-use crate::{Key, TableName, Value};
+use crate::{Key, NoMemory, TableName, Value};
+use std::alloc::Global;
 
 /// The name of a transaction: its session, and the number of its accepted BEGIN there, from 1.
 #[derive(Clone, Copy, Debug, PartialEq, Eq, PartialOrd, Ord, Hash)]
@@ -34,6 +36,36 @@ pub enum Command {
     Work(TableName, Key, Op),
     Commit,
     Abort,
+}
+
+impl Op {
+    /// Another operation of the same content. It allocates only for a value.
+    pub fn copy(&self, alloc: Global) -> Result<Op, NoMemory>
+        ensures { IfOk result (λ copy. copy ≡ self.now) }
+    {
+        Ok(match self {
+            Op::Get => Op::Get,
+            Op::Put(value) => Op::Put(value.copy(alloc)?),
+            Op::Del => Op::Del,
+            Op::Add(amount) => Op::Add(*amount),
+        })
+    }
+}
+
+impl Command {
+    /// Another command of the same content. It allocates only for a value.
+    pub fn copy(&self, alloc: Global) -> Result<Command, NoMemory>
+        ensures { IfOk result (λ copy. copy ≡ self.now) }
+    {
+        Ok(match self {
+            Command::Begin => Command::Begin,
+            Command::Work(table, key, op) => {
+                Command::Work(table.copy(), key.copy(), op.copy(alloc)?)
+            }
+            Command::Commit => Command::Commit,
+            Command::Abort => Command::Abort,
+        })
+    }
 }
 
 /// A stronger lock conflicts with all that a weaker one conflicts with.
