@@ -17,8 +17,8 @@ pub struct Item {
 pub type ItemList = GrowingList<Item>;
 
 impl Item {
-    // Another record of the same content.
-    pub(crate) fn copy(&self, alloc: Global) -> Result<Item, NoMemory>
+    /// Another record of the same content. It allocates only for a value.
+    pub fn copy(&self, alloc: Global) -> Result<Item, NoMemory>
         ensures { IfOk result (λ item. item ≡ self.now) }
     {
         Ok(Item {
