@@ -2,12 +2,14 @@
 #![tactic(auto)]
 
 mod bodies;
+mod copies;
 mod decoding;
 mod encoding;
 mod kind;
 mod laws;
 mod limits;
 mod packet;
+mod payload;
 
 pub use cl_fields::{Undecoded, WireFault};
 pub use decoding::decode;
@@ -17,4 +19,5 @@ pub use laws::{
     spelling_and_reading_agree, what_faults_mean,
 };
 pub use limits::PACKET_MAX;
-pub use packet::{Body, Packet};
+pub use packet::{Body, Packet, PacketList};
+pub use payload::Payload;
