@@ -1,10 +1,11 @@
 //! Tests of `cl_types`, with values from outside the program.
 use crate::types::Asked::{Add, Del, Get, Put};
 use crate::types::Replied::{Absent, Found, NotNumber, OutOfRange, Stored, Sum};
-use cl_samples::{NoSample, is_value, key, optional_value, table, value};
+use cl_samples::{NoSample, is_value, key, optional_value, table, txn, value};
 use cl_types::{
-    AppendOnlyList, GrowingList, Key, NoMemory, Op, Reply, TableName, Text, Value, apply_op,
-    copy_value, fragment, hash, is_node_count, natural_of, number_of, number_of_text, vnode_of,
+    AbortCause, Answer, AppendOnlyList, Command, GrowingList, Key, NoMemory, Op, Outcome, Reply,
+    TableName, Text, Value, apply_op, copy_value, fragment, hash, is_node_count, natural_of,
+    number_of, number_of_text, vnode_of,
 };
 use std::alloc::Global;
 use std::test::Fail;
@@ -163,7 +164,7 @@ enum Asked<'a> {
 }
 
 // A reply, with the bytes of its value.
-#[derive(Clone, Copy)]
+#[derive(Clone, Copy, Debug)]
 enum Replied<'a> {
     Stored,
     Found(&'a [u8]),
@@ -191,6 +192,46 @@ fn reply_of(alloc: Global, replied: Replied<'_>) -> Result<Reply, NoSample> {
         NotNumber => Reply::NotNumber,
         OutOfRange => Reply::OutOfRange,
     })
+}
+
+// Whether the operation is copied, alone and in a command.
+fn is_op_copied(alloc: Global, asked: Asked<'_>) -> Result<bool, NoSample> {
+    let op = op_of(alloc, asked)?;
+    let is_copied = op.copy(alloc)? == op;
+    let command = Command::Work(table(b"sub")?, key(b"k1")?, op);
+    Ok(is_copied && command.copy(alloc)? == command)
+}
+
+// Whether the reply is copied, alone, in an answer and in an outcome.
+fn is_reply_copied(alloc: Global, replied: Replied<'_>) -> Result<bool, NoSample> {
+    let reply = reply_of(alloc, replied)?;
+    let copy = reply.copy(alloc)?;
+    let is_copied = copy == reply;
+    let (answer, outcome) = (Answer::Done(copy), Outcome::Done(reply));
+    Ok(is_copied && answer.copy(alloc)? == answer && outcome.copy(alloc)? == outcome)
+}
+
+// Whether copies of a command, an answer and an outcome without a value are like them.
+fn are_others_copied(alloc: Global) -> Result<bool, NoMemory> {
+    let answer = Answer::Refused(txn(2, 7));
+    let outcome = Outcome::Aborted(AbortCause::Node(3));
+    Ok(
+        Command::Begin.copy(alloc)? == Command::Begin
+            && answer.copy(alloc)? == answer
+            && outcome.copy(alloc)? == outcome,
+    )
+}
+
+#[test]
+fn what_is_asked_and_answered_is_copied(rt: HostRuntime) -> Result<(), Fail> {
+    for asked in [Get, Put(b"y"), Del, Add(-3)] {
+        assert!(rt; is_op_copied(rt.alloc(), asked)?, "{asked:?}");
+    }
+    for replied in [Stored, Found(b"x"), Absent, Sum(-3), NotNumber, OutOfRange] {
+        assert!(rt; is_reply_copied(rt.alloc(), replied)?, "{replied:?}");
+    }
+    assert!(rt; are_others_copied(rt.alloc())?);
+    Ok(())
 }
 
 // Whether the operation on the value of the old bytes has the reply, and leaves the new bytes.

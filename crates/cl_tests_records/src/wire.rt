@@ -1,4 +1,7 @@
 //! Worked packets, with bytes from outside the program.
+ghost use Rattle.std.specs.Prelude.{◌≡◌, IfOk};
+ghost use Rattle.cl_wire.specs.Message.{message_of};
+
 use cl_log::{Form, LogRec};
 use cl_samples::{is_value, txn as sample_txn};
 use cl_types::{AbortCause, Answer, Command, Key, NoMemory, Op, Outcome, Reply, TableName, TxnId};
@@ -37,10 +40,21 @@ fn spelled(
     Ok(bytes)
 }
 
-// The packet that the bytes spell, if it is spelled by the same bytes again.
+// The packet with a copy of a copy of its body, made by way of payloads.
+fn copied(alloc: Global, packet: Packet) -> Result<Packet, NoMemory>
+    ensures { IfOk result (λ copy. message_of copy ≡ message_of packet) }
+{
+    let first = Payload::new(packet.body);
+    let second = Payload::new(first.body().copy(alloc)?);
+    let body = second.copy(alloc)?.into_body();
+    Ok(Packet { body, ..packet })
+}
+
+// The packet that the bytes spell, with its body copied, if it is spelled by the same bytes again.
 fn read_back(alloc: Global, bytes: &[u8]) -> Result<Option<Packet>, NoMemory> {
     match decode(alloc, bytes) {
         Ok(packet) => {
+            let packet = copied(alloc, packet)?;
             if encode(alloc, &packet)?.as_slice() == bytes {
                 Ok(Some(packet))
             } else {
