@@ -19,5 +19,5 @@ pub use laws::{
     spelling_and_reading_agree, what_faults_mean,
 };
 pub use limits::PACKET_MAX;
-pub use packet::{Body, Packet, PacketList};
+pub use packet::{Body, Packet};
 pub use payload::Payload;

@@ -1,7 +1,7 @@
 //! What actors send to each other.
 use cl_log::{LogRec, TxnList};
 use cl_store::ItemList;
-use cl_types::{Answer, Command, GrowingList, Key, Op, Outcome, TableName, TxnId};
+use cl_types::{Answer, Command, Key, Op, Outcome, TableName, TxnId};
 
 /// A packet between two actors: a message with its number, or a bare acknowledgement.
 ///
@@ -20,9 +20,6 @@ pub struct Packet {
     pub ack: u64,
     pub body: Body,
 }
-
-/// Packets, in the order in which they are sent.
-pub type PacketList = GrowingList<Packet>;
 
 /// What a packet says. The first field is the virtual node, 0 to 7, unless said otherwise.
 ///
