@@ -4,7 +4,7 @@ use Rattle.std.proofs.lemmas.Bool.{false≢true}
 use Rattle.cl_types.specs.Places.{Place}
 use Rattle.cl_log.specs.declared.records.LogRec.{LogRec}
 use Rattle.cl_log.specs.declared.records.LogRec.TheVariants.{Touch, Set, Add, Comp, Prepared, End, Decide}
-use Rattle.cl_log.specs.Kind.{opens, is_end, is_mark, can_be_undone, undoes, writes}
+use Rattle.cl_log.specs.Kind.{txn_of, opens, is_end, is_mark, can_be_undone, undoes, writes}
 use Rattle.cl_log.specs.Rest.{undo_of}
 use Rattle.cl_log.specs.Settled.{value_undone}
 use Rattle.cl_log.specs.Store.{value_after}
@@ -69,3 +69,8 @@ pub is_end-undo_of : (content : LogRec) (number now : ℕ) → can_be_undone con
 is_end-undo_of (Comp txn table key before undone form) number now h = absurd (false≢true h)
 is_end-undo_of (End txn commit) number now h = absurd (false≢true h)
 is_end-undo_of content number now h = refl
+
+-- the undoing of a write is of its transaction
+pub txn_of-undo_of : (content : LogRec) (number now : ℕ) → txn_of (undo_of content number now) ≡ txn_of content
+txn_of-undo_of (Set txn table key before old new) number now = refl
+txn_of-undo_of content number now = refl

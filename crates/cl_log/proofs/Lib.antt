@@ -5,15 +5,17 @@ pub mod Entries
 pub mod KindFacts
 pub mod Lawful
 pub mod Locks
+pub mod KnownFacts
 pub mod LogWords
 pub mod Low
 pub mod Numbered
 pub mod Open
-mod Parts
 pub mod Places
 pub mod Rest
 pub mod Reversible
 pub mod Settled
+pub mod SlotFacts
+pub mod SlotWalks
 pub mod Store
 pub mod Txn
 pub mod Unended

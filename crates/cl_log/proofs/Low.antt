@@ -1,13 +1,16 @@
 -- Where the first open transaction begins, and which transactions are open.
-use Rattle.std.proofs.Common.{◌≡◌, ℕ, ◌+◌, ◌≤◌, ◌⊎◌, Bool, true, false, cond, List, [], ◌∷◌, ◌++◌, length, Some, refl, sym, ap, subst, inl, inr, arith}
+use Rattle.std.proofs.Common.{◌≡◌, ℕ, ◌+◌, ◌≤◌, ◌⊎◌, Bool, true, false, cond, List, [], ◌∷◌, ◌++◌, length, drop, get_or, Some, refl, sym, ap, ◌∙◌, ◌<◌, subst, inl, inr, arith}
 use Rattle.std.specs.List.{find}
 use Rattle.std.specs.Option.{option_map_or}
 use Rattle.std.proofs.lemmas.Bool.{cond-true, cond-false, both_ways}
-use Rattle.cl_log.specs.LogEntry.{LogEntry, IsNumberedFrom}
+use Rattle.std.proofs.lemmas.List.{drop_all}
+use Rattle.cl_log.specs.declared.records.LogRec.{LogRec}
+use Rattle.cl_log.specs.LogEntry.{LogEntry, numbered, IsNumberedFrom}
 use Rattle.cl_log.specs.Kind.{txn_of}
 use Rattle.cl_log.specs.Laws.{IsLeastOpen}
 use Rattle.cl_log.specs.Open.{is_open, low_of}
 use Rattle.cl_log.proofs.Entries.{number_at}
+use Rattle.cl_log.proofs.Numbered.{drop-numbered, length-numbered}
 
 -- the number of the first entry that passes, or the next number
 record IsLeast (p : LogEntry → Bool) (xs : List LogEntry) (next low : ℕ) : Type 0 where
@@ -53,3 +56,27 @@ unfolding low_of
 low_is_least_open entries n h =
     let is = least_found (λ entry. is_open entries (txn_of entry.content)) n entries (n + length entries) h refl in
     record { at_most_next = is.at_most_next; least = is.least; found = is.found }
+
+-- a walk over the records, up to the first of an open transaction
+module _ (first index : ℕ) (xs : List LogRec) (x : LogRec) (within : index < length xs) (at : x ≡ get_or xs index x) where
+  abbrev kept : List LogEntry
+  kept = numbered first xs
+
+  pub find_next : (p : LogEntry → Bool) → p (record { number = first + index; content = x }) ≡ false → find p (drop index kept) ≡ find p (drop (index + 1) kept)
+  find_next p f = ap (find p) (drop-numbered first index xs x within at) ∙ cond-false _ _ _ f
+
+  pub low_here : (next : ℕ) → let p = λ (entry : LogEntry). is_open kept (txn_of entry.content) in
+      find p kept ≡ find p (drop index kept) → is_open kept (txn_of x) ≡ true → low_of kept next ≡ first + index
+  unfolding low_of
+  low_here next so_far t =
+      let p = λ (entry : LogEntry). is_open kept (txn_of entry.content) in
+      ap (λ o. option_map_or (λ (e : LogEntry). e.number) o next) (so_far ∙ ap (find p) (drop-numbered first index xs x within at) ∙ cond-true _ _ _ t)
+
+pub low_none : (first index next : ℕ) (xs : List LogRec) → let kept = numbered first xs in let p = λ (entry : LogEntry). is_open kept (txn_of entry.content) in
+    find p kept ≡ find p (drop index kept) → length xs ≤ index → low_of kept next ≡ next
+unfolding low_of
+low_none first index next xs so_far end =
+    let kept = numbered first xs in
+    let p = λ (entry : LogEntry). is_open kept (txn_of entry.content) in
+    ap (λ o. option_map_or (λ (e : LogEntry). e.number) o next)
+    (so_far ∙ ap (find p) (drop_all index kept (let count = length-numbered first xs in omega (arith, end, count))))

@@ -1,8 +1,8 @@
 -- Records with their numbers.
-use Rattle.std.proofs.Common.{◌≡◌, ℕ, zero, suc, ◌+◌, ◌-◌, ◌<◌, ◌≤◌, Bool, true, false, cond, eqb, ◌||◌, List, [], ◌∷◌, ◌++◌, length, take, drop, get_or, Some, None, refl, sym, ap, ◌∙◌, arith}
+use Rattle.std.proofs.Common.{◌≡◌, ℕ, zero, suc, ◌+◌, ◌-◌, ◌<◌, ◌≤◌, Bool, eqb, ◌||◌, List, [], ◌∷◌, ◌++◌, length, take, drop, get_or, Some, None, refl, sym, ap, ◌∙◌, arith}
 use Rattle.std.specs.Prelude.{slice_get}
 use Rattle.std.specs.Option.{option_map}
-use Rattle.std.specs.List.{list_any, find, position_from}
+use Rattle.std.specs.List.{list_any, find}
 use Rattle.std.proofs.lemmas.List.{take_more, length-take-le}
 use Rattle.std.proofs.lemmas.Bool.{ne_eqb, eq-eqb, cond-false, cond-true}
 use Rattle.cl_log.proofs.Entries.{number_at}
@@ -32,23 +32,6 @@ IsNumberedFrom-numbered n (x ∷ xs) = (refl, IsNumberedFrom-numbered (n + 1) xs
 pub list_any-numbered : (p : LogRec → Bool) (n : ℕ) (xs : List LogRec) → list_any (λ entry. p entry.content) (numbered n xs) ≡ list_any p xs
 list_any-numbered p n [] = refl
 list_any-numbered p n (x ∷ xs) = ap (λ b. p x || b) (list_any-numbered p (n + 1) xs)
-
--- the number of the first record that passes a test
-pub find-numbered : (p : LogRec → Bool) (n : ℕ) (xs : List LogRec) → option_map (λ (entry : LogEntry). entry.number) (find (λ entry. p entry.content) (numbered n xs)) ≡ position_from p n xs
-find-numbered p n [] = refl
-find-numbered p n (x ∷ xs) =
-    elim (p x) as (λ b. option_map (λ (entry : LogEntry). entry.number) (cond b (Some (let e : LogEntry = record { number = n; content = x } in e)) (find (λ entry. p entry.content) (numbered (n + 1) xs))) ≡ cond b (Some n) (position_from p (n + 1) xs))
-    [ true ↦ refl | false ↦ find-numbered p (n + 1) xs ]
-
-pub position_from-shift : (p : LogRec → Bool) (n k : ℕ) (xs : List LogRec) → position_from p (n + k) xs ≡ option_map (λ i. n + i) (position_from p k xs)
-position_from-shift p n k [] = refl
-position_from-shift p n k (x ∷ xs) =
-    elim (p x) as (λ b. cond b (Some (n + k)) (position_from p (n + k + 1) xs) ≡ option_map (λ i. n + i) (cond b (Some k) (position_from p (k + 1) xs)))
-    [ true ↦ refl | false ↦ ap (λ m. position_from p m xs) (omega arith) ∙ position_from-shift p n (k + 1) xs ]
-
-pub position_from-agree : (p q : LogRec → Bool) → ((x : LogRec) → p x ≡ q x) → (k : ℕ) (xs : List LogRec) → position_from p k xs ≡ position_from q k xs
-position_from-agree p q h k [] = refl
-position_from-agree p q h k (x ∷ xs) = ap (λ b. cond b (Some k) (position_from p (k + 1) xs)) (h x) ∙ ap (cond (q x) (Some k)) (position_from-agree p q h (k + 1) xs)
 
 -- no record has a number below the first
 find-below : (n k : ℕ) (xs : List LogRec) → k < n → find (λ (entry : LogEntry). eqb entry.number k) (numbered n xs) ≡ None

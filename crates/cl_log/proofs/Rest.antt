@@ -1,7 +1,7 @@
 -- How the rest of a transaction grows and shrinks with its log.
-use Rattle.std.proofs.Common.{◌≡◌, ◌≢◌, ℕ, zero, suc, ◌+◌, ◌<◌, ◌≤◌, Bool, true, false, not, cond, eqb, ◌&&◌, ◌||◌, List, [], ◌∷◌, ◌++◌, length, take, drop, get_or, reverse, Option, Some, None, refl, sym, ap, ◌∙◌, subst, arith}
-use Rattle.std.specs.List.{list_any, filter}
-use Rattle.std.proofs.lemmas.List.{append-nil, reverse-append, reverse-reverse, take-append-drop}
+use Rattle.std.proofs.Common.{◌≡◌, ◌≢◌, ℕ, ◌+◌, ◌<◌, ◌≤◌, Bool, true, false, not, cond, eqb, ◌&&◌, ◌||◌, List, [], ◌∷◌, ◌++◌, length, reverse, Option, Some, None, refl, sym, ap, ◌∙◌, subst, arith}
+use Rattle.std.specs.List.{filter}
+use Rattle.std.proofs.lemmas.List.{append-nil, reverse-append, reverse-reverse}
 use Rattle.std.proofs.lemmas.List.Elements.{filter-append, filter_agree}
 use Rattle.std.proofs.lemmas.Bool.{and_left, and_right, and_parts, cond-true, cond-false, not-true, not_from_true, not_from_false, ne_eqb, eq-eqb, false≢true}
 use Rattle.cl_types.specs.declared.operations.TxnId.{TxnId}
@@ -9,67 +9,25 @@ use Rattle.cl_types.proofs.Transactions.{same_txn-true, same_txn-false}
 use Rattle.cl_log.specs.declared.records.LogRec.{LogRec}
 use Rattle.cl_log.specs.declared.records.LogRec.TheVariants.{Set, Add}
 use Rattle.cl_log.proofs.Entries.{IsNumberedFrom-append}
-use Rattle.cl_log.specs.LogEntry.{LogEntry, numbered, IsNumberedFrom, content_at}
+use Rattle.cl_log.specs.LogEntry.{LogEntry, IsNumberedFrom, content_at}
 use Rattle.cl_log.specs.Kind.{txn_of, is_of, can_be_undone, undoes}
 use Rattle.cl_log.specs.Rest.{is_undone, is_left_of, rest_to_undo, first_number, undo_of}
-use Rattle.cl_log.specs.declared.scans.Sought.TheVariants.{Compensation}
-use Rattle.cl_log.specs.Sought.{is_sought}
-use Rattle.cl_log.proofs.Numbered.{list_any-numbered, drop-numbered, content_at-entry}
+use Rattle.cl_log.proofs.Numbered.{content_at-entry}
 use Rattle.cl_log.proofs.Open.{list_any_push, or_false}
 
-pub is_undone-renumbered : (number m n : ℕ) (xs : List LogRec) → is_undone (numbered m xs) number ≡ is_undone (numbered n xs) number
-unfolding is_undone
-is_undone-renumbered number m n xs = list_any-numbered (undoes number) m xs ∙ sym (list_any-numbered (undoes number) n xs)
-
--- whether a number is undone, by what is sought among the records
-pub is_undone-sought : (number : ℕ) (xs : List LogRec) → is_undone (numbered 0 xs) number ≡ list_any (is_sought (Compensation number)) xs
-unfolding is_undone
-is_undone-sought number xs = list_any-numbered (is_sought (Compensation number)) 0 xs
-
 -- the rest from the last entry that passes
-first-reverse-filter : (p : LogEntry → Bool) (xs : List LogEntry) (x : LogEntry) (ys : List LogEntry) → p x ≡ true → filter p ys ≡ [] → first_number (reverse (filter p (xs ++ x ∷ ys))) ≡ Some x.number
+pub first-reverse-filter : (p : LogEntry → Bool) (xs : List LogEntry) (x : LogEntry) (ys : List LogEntry) → p x ≡ true → filter p ys ≡ [] → first_number (reverse (filter p (xs ++ x ∷ ys))) ≡ Some x.number
 first-reverse-filter p xs x ys h none =
     ap (λ es. first_number (reverse es))
     (filter-append p xs (x ∷ ys) ∙ ap (λ es. filter p xs ++ es) (ap (λ b. cond b (x ∷ filter p ys) (filter p ys)) h ∙ ap (λ es. x ∷ es) none))
     ∙ ap first_number (reverse-append (filter p xs) (x ∷ []))
-
--- the last entry that is left to undo is the first of the rest
-pub first_of_rest : (entries : List LogEntry) (txn : TxnId) (xs : List LogEntry) (x : LogEntry) (ys : List LogEntry) → entries ≡ xs ++ x ∷ ys → is_left_of entries txn x ≡ true → filter (is_left_of entries txn) ys ≡ [] → first_number (rest_to_undo entries txn) ≡ Some x.number
-unfolding rest_to_undo
-first_of_rest entries txn xs x ys e h none =
-    ap (λ es. first_number (reverse (filter (is_left_of entries txn) es))) e ∙ first-reverse-filter (is_left_of entries txn) xs x ys h none
-
-pub first_of_no_rest : (entries : List LogEntry) (txn : TxnId) → filter (is_left_of entries txn) entries ≡ [] → first_number (rest_to_undo entries txn) ≡ None
-unfolding rest_to_undo
-first_of_no_rest entries txn none = ap (λ es. first_number (reverse es)) none
-
--- a walk from the end: nothing from the index on is left
-pub left_none : (entries : List LogEntry) (txn : TxnId) (index : ℕ) → index ≤ 0 → filter (is_left_of entries txn) (drop index entries) ≡ [] → first_number (rest_to_undo entries txn) ≡ None
-left_none entries txn zero h none = first_of_no_rest entries txn none
-left_none entries txn (suc index) h none = absurd (omega arith)
-
--- at the record before the index
-module _ (n index : ℕ) (xs : List LogRec) (x : LogRec) (txn : TxnId) (within : index + 1 ≤ length xs) (at : x ≡ get_or xs index x) where
-  pub left_step : is_left_of (numbered n xs) txn (record { number = n + index; content = x }) ≡ false →
-      filter (is_left_of (numbered n xs) txn) (drop (index + 1) (numbered n xs)) ≡ [] → filter (is_left_of (numbered n xs) txn) (drop index (numbered n xs)) ≡ []
-  left_step f none =
-      ap (filter (is_left_of (numbered n xs) txn)) (drop-numbered n index xs x (omega arith) at)
-      ∙ ap (λ b. cond b ((let entry : LogEntry = record { number = n + index; content = x } in entry) ∷ filter (is_left_of (numbered n xs) txn) (drop (index + 1) (numbered n xs))) (filter (is_left_of (numbered n xs) txn) (drop (index + 1) (numbered n xs)))) f
-      ∙ none
-
-  pub left_found : is_left_of (numbered n xs) txn (record { number = n + index; content = x }) ≡ true →
-      filter (is_left_of (numbered n xs) txn) (drop (index + 1) (numbered n xs)) ≡ [] → first_number (rest_to_undo (numbered n xs) txn) ≡ Some (n + index)
-  left_found t none =
-      first_of_rest (numbered n xs) txn (take index (numbered n xs)) (record { number = n + index; content = x }) (drop (index + 1) (numbered n xs))
-      (sym (take-append-drop index (numbered n xs)) ∙ ap (λ es. take index (numbered n xs) ++ es) (drop-numbered n index xs x (omega arith) at))
-      t none
 
 pub is_undone_push : (number : ℕ) (entries : List LogEntry) (entry : LogEntry) → is_undone (entries ++ entry ∷ []) number ≡ (is_undone entries number || undoes number entry.content)
 unfolding is_undone
 is_undone_push number entries entry = list_any_push (λ e. undoes number e.content) entries entry
 
 -- a filter of a filter, and of a list from its end
-filter_both : (p q : LogEntry → Bool) (xs : List LogEntry) → filter (λ x. p x && q x) xs ≡ filter q (filter p xs)
+pub filter_both : (p q : LogEntry → Bool) (xs : List LogEntry) → filter (λ x. p x && q x) xs ≡ filter q (filter p xs)
 filter_both p q [] = refl
 filter_both p q (x ∷ xs) =
     elim (p x) as (λ b. cond (b && q x) (x ∷ filter (λ x. p x && q x) xs) (filter (λ x. p x && q x) xs) ≡ filter q (cond b (x ∷ filter p xs) (filter p xs)))
@@ -148,13 +106,13 @@ pub record IsFirstOfRest (entries : List LogEntry) (txn : TxnId) (first : LogEnt
   pub none_after : filter (is_left_of entries txn) after ≡ []
   pub are_others : others ≡ reverse (filter (is_left_of entries txn) before)
 
-record SplitsAtLast (p : LogEntry → Bool) (xs : List LogEntry) (x : LogEntry) (r : List LogEntry) : Type 0 where
-  before : List LogEntry
-  after : List LogEntry
-  whole : xs ≡ before ++ x ∷ after
-  passes : p x ≡ true
-  none_after : filter p after ≡ []
-  others : r ≡ reverse (filter p before)
+pub record SplitsAtLast (p : LogEntry → Bool) (xs : List LogEntry) (x : LogEntry) (r : List LogEntry) : Type 0 where
+  pub before : List LogEntry
+  pub after : List LogEntry
+  pub whole : xs ≡ before ++ x ∷ after
+  pub passes : p x ≡ true
+  pub none_after : filter p after ≡ []
+  pub others : r ≡ reverse (filter p before)
 
 -- one more element in front, which fails or passes
 split_past : (p : LogEntry → Bool) (y : LogEntry) (ys : List LogEntry) (x : LogEntry) (r : List LogEntry) → p y ≡ false → SplitsAtLast p ys x r → SplitsAtLast p (y ∷ ys) x r
@@ -179,7 +137,7 @@ split_longer p y ys x r t inner = record {
       ∙ ap reverse (sym (cond-true _ (y ∷ filter p inner.before) (filter p inner.before) t));
 }
 
-split_at_last : (p : LogEntry → Bool) (xs : List LogEntry) (x : LogEntry) (r : List LogEntry) → reverse (filter p xs) ≡ x ∷ r → SplitsAtLast p xs x r
+pub split_at_last : (p : LogEntry → Bool) (xs : List LogEntry) (x : LogEntry) (r : List LogEntry) → reverse (filter p xs) ≡ x ∷ r → SplitsAtLast p xs x r
 split_at_last p [] x r h = absurd (let e : ◌≡◌ {A = List LogEntry} [] (x ∷ r) = h in cc)
 split_at_last p (y ∷ ys) x r h = by_head (split_at_last p ys) (p y) refl (reverse (filter p ys)) refl
   where
@@ -282,7 +240,7 @@ can_be_undone-undo_of (Add txn table key before amount) number now h = refl
 can_be_undone-undo_of content number now h = absurd (false≢true h)
 
 -- a rest without the number of an entry that is not in it
-rest-without : (entries : List LogEntry) (txn : TxnId) (n : ℕ) → IsNumberedFrom n entries → (entry : LogEntry) (before after : List LogEntry) → entries ≡ before ++ entry ∷ after → is_left_of entries txn entry ≡ false →
+pub rest-without : (entries : List LogEntry) (txn : TxnId) (n : ℕ) → IsNumberedFrom n entries → (entry : LogEntry) (before after : List LogEntry) → entries ≡ before ++ entry ∷ after → is_left_of entries txn entry ≡ false →
     filter (λ x. not (eqb entry.number x.number)) (rest_to_undo entries txn) ≡ rest_to_undo entries txn
 unfolding rest_to_undo
 rest-without entries txn n numbers entry before after whole skips =
@@ -301,6 +259,21 @@ rest-without entries txn n numbers entry before after whole skips =
     (kept_above p q (n + length before + 1) entry.number after parts.1.1 (omega (arith, parts.1.0)) (λ x l. not_from_false _ (ne_eqb entry.number x.number (λ e. omega arith))))
     ∙ sym all)
 
+-- a rest without the number of its first
+pub rest-without_first : (entries : List LogEntry) (txn : TxnId) (n : ℕ) → IsNumberedFrom n entries → (first : LogEntry) (others : List LogEntry) → rest_to_undo entries txn ≡ first ∷ others →
+    filter (λ x. not (eqb first.number x.number)) (rest_to_undo entries txn) ≡ others
+rest-without_first entries txn n numbers first others rest =
+    let is = first_of_rest_is entries txn first others rest in
+    let parts = IsNumberedFrom-append n is.before (first ∷ is.after) (subst (IsNumberedFrom n) is.whole numbers) in
+    let q = λ (x : LogEntry). not (eqb first.number x.number) in
+    ap (filter q) rest
+    ∙ cond-false _ _ _ (not_from_true _ (eq-eqb first.number first.number refl))
+    ∙ ap (filter q) is.are_others
+    ∙ filter-reverse q (filter (is_left_of entries txn) is.before)
+    ∙ ap reverse (kept_below (is_left_of entries txn) q n first.number is.before parts.0 (omega (arith, parts.1.0))
+    (λ x l. not_from_false _ (ne_eqb first.number x.number (λ e. omega arith))))
+    ∙ sym is.are_others
+
 -- an undo step: the compensation of the first of the rest is appended
 module _ (entries : List LogEntry) (n : ℕ) (numbers : IsNumberedFrom n entries) (txn : TxnId) (first : LogEntry) (others : List LogEntry)
     (rest : rest_to_undo entries txn ≡ first ∷ others) (entry : LogEntry) (now : ℕ) (is_undo : entry.content ≡ undo_of first.content first.number now) where
@@ -314,18 +287,7 @@ module _ (entries : List LogEntry) (n : ℕ) (numbers : IsNumberedFrom n entries
   own = ap can_be_undone is_undo ∙ can_be_undone-undo_of first.content first.number now undoable
 
   pub rest_after_undo : rest_to_undo (entries ++ entry ∷ []) txn ≡ others
-  rest_after_undo =
-      let is = first_of_rest_is entries txn first others rest in
-      let parts = IsNumberedFrom-append n is.before (first ∷ is.after) (subst (IsNumberedFrom n) is.whole numbers) in
-      let q = λ (x : LogEntry). not (eqb first.number x.number) in
-      rest_to_undo_push-undo entries entry txn first.number names_first own
-      ∙ ap (filter q) rest
-      ∙ cond-false _ _ _ (not_from_true _ (eq-eqb first.number first.number refl))
-      ∙ ap (filter q) is.are_others
-      ∙ filter-reverse q (filter (is_left_of entries txn) is.before)
-      ∙ ap reverse (kept_below (is_left_of entries txn) q n first.number is.before parts.0 (omega (arith, parts.1.0))
-      (λ x l. not_from_false _ (ne_eqb first.number x.number (λ e. omega arith))))
-      ∙ sym is.are_others
+  rest_after_undo = rest_to_undo_push-undo entries entry txn first.number names_first own ∙ rest-without_first entries txn n numbers first others rest
 
   -- the rest of another transaction stays
   pub rest_after_undo-other : (other : TxnId) → other ≢ txn → rest_to_undo (entries ++ entry ∷ []) other ≡ rest_to_undo entries other

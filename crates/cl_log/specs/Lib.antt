@@ -1,11 +1,13 @@
 pub mod LogEntry
 pub mod Kind
+pub mod Known
 pub mod Locks
 pub mod Log
 pub mod Open
 pub mod Rest
 pub mod Settled
-pub mod Sought
+pub mod SlotList
+pub mod Slots
 pub mod Store
 pub mod Lawful
 pub mod Laws

@@ -1,5 +1,6 @@
 //! What a record says of its transaction.
-ghost use Rattle.std.specs.Prelude.{◌≡◌};
+ghost use Rattle.std.specs.Prelude.{◌≡◌, ℕ, Some, nat_eq};
+ghost use Rattle.std.specs.Option.{option_eq};
 ghost use Rattle.cl_types.specs.Transactions.{same_txn};
 ghost use Rattle.cl_log.specs.Kind.{txn_of, is_of, opens, is_prepared, is_end, can_be_undone, undoes};
 
@@ -63,6 +64,16 @@ impl LogRec {
         ensures { result ≡ can_be_undone self.now }
     {
         matches!(self, LogRec::Set(..) | LogRec::Add(..))
+    }
+
+    // The number that it names as undone, where it is a compensation.
+    pub(crate) fn names(&self) -> Option<u64>
+        ensures { (number : ℕ) → undoes number self.now ≡ option_eq nat_eq result (Some number) }
+    {
+        match self {
+            LogRec::Comp(_, _, _, _, undone, _) => Some(*undone),
+            _ => None,
+        }
     }
 
     // Whether it is a compensation that names the number as undone.

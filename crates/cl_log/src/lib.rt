@@ -2,10 +2,11 @@
 #![tactic(auto)]
 
 mod kinds;
+mod known;
 mod laws;
 mod log;
 mod records;
-mod scans;
+mod slots;
 mod stage;
 mod undo;
 

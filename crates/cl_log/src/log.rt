@@ -1,8 +1,15 @@
 //! The log of a replica.
-ghost use Rattle.std.specs.Prelude.{◌+◌, ◌^◌, ◌<◌, ◌≤◌, length};
+ghost use Rattle.std.specs.Prelude.{◌≡◌, IfOk, reverse};
 ghost use Rattle.cl_types.specs.GrowingList.{items};
+ghost use Rattle.cl_types.specs.declared.operations.TxnId.{TxnId};
+ghost use Rattle.cl_log.specs.Known.{known_at, known_from};
+ghost use Rattle.cl_log.specs.Open.{is_among};
+ghost use Rattle.cl_log.specs.SlotList.{entries_in};
 
-use crate::{LogRec, Stage, scans};
+use crate::kinds::is_same_txn;
+use crate::known::{Index, known_of, put, uncover};
+use crate::slots::{Slot, SlotList};
+use crate::{LogRec, Stage};
 use cl_types::{GrowingList, NoMemory, TxnId};
 use std::alloc::Global;
 
@@ -22,21 +29,21 @@ pub type TxnList = GrowingList<TxnId>;
 /// is room (`room`).
 #[derive(Debug, Drop)]
 pub struct Log {
-    records: GrowingList<LogRec>,
-    first: u64,
+    records: SlotList,
+    index: Index,
     alloc: Global,
-    ghost counts_from_one: { 1 ≤ first },
-    ghost has_numbers: { first + length (items records) < 2 ^ 64 },
+    ghost is_indexed: { (txn : TxnId) → known_at index txn ≡ known_from (entries_in records) txn },
 }
 
 #[tactic(auto, unfolding(crate::specs::Log::entries, crate::specs::Log::first_kept, crate::specs::Log::next_number, crate::specs::Log::room))]
 impl Log {
-    ghost use Rattle.std.specs.Prelude.{◌≡◌, ◌+◌, ◌-◌, ◌^◌, ◌≤◌, [], ◌∷◌, ◌++◌, OnOk, IsOk, IfOk};
+    ghost use Rattle.std.specs.Prelude.{◌≡◌, ◌+◌, ◌-◌, ◌^◌, ◌≤◌, true, [], ◌∷◌, ◌++◌, OnOk, IsOk, IfOk, IfSome};
     ghost use Rattle.cl_types.specs.GrowingList.{items};
     ghost use Rattle.std.specs.Option.{option_copied};
+    ghost use Rattle.cl_log.specs.Known.{is_known, left_past, left_after};
     ghost use Rattle.cl_log.specs.Log.{entries, first_kept, next_number, room};
     ghost use Rattle.cl_log.specs.LogEntry.{content_at};
-    ghost use Rattle.cl_log.specs.Open.{stage_of, chain_of, low_of, unended_of};
+    ghost use Rattle.cl_log.specs.Open.{is_open, stage_of, chain_of, low_of, unended_of};
     ghost use Rattle.cl_log.specs.Rest.{rest_to_undo, first_number};
 
     /// An empty log whose next number is `first`. It takes no memory.
@@ -47,8 +54,8 @@ impl Log {
         ensures next { next_number result ≡ first }
     {
         Log {
-            records: GrowingList::new(alloc),
-            first,
+            records: SlotList::new(alloc, first),
+            index: Index::new(alloc),
             alloc,
         }
     }
@@ -62,14 +69,9 @@ impl Log {
         ensures roomy { count ≤ room self.old → IsOk result }
         ensures keeps_room { room self.old ≤ room self.new }
     {
-        self.records.reserve(count)
-    }
-
-    // The number that the next record will have.
-    fn next(&self) -> u64
-        ensures { result ≡ next_number self.now }
-    {
-        self.first + self.records.len() as u64
+        self.records.reserve(count)?;
+        self.index.reserve(count)?;
+        Ok(())
     }
 
     /// The number of the last record that was appended, or the one below the first number where
@@ -77,10 +79,28 @@ impl Log {
     pub fn last(&self) -> u64
         ensures { result ≡ next_number self.now - 1 }
     {
-        self.next() - 1
+        self.records.next() - 1
+    }
+
+    // The transaction whose last write that is not undone is the one that a record names, with the
+    // last one before that. It reads the records of that transaction from the one to the other.
+    fn uncovered(&self, content: &LogRec) -> Option<(TxnId, Option<u64>)>
+        ensures left { (txn : TxnId) → left_past (entries self.now) content.now txn
+            ≡ left_after result (first_number (rest_to_undo (entries self.now) txn)) txn }
+        ensures known { IfSome result (λ found. is_known self.now.index found.0 ≡ true) }
+    {
+        let named = content.names()?;
+        let undone = self.records.at(named)?.txn();
+        if known_of(&self.index, undone).left != Some(named) {
+            return None;
+        }
+        Some((undone, self.records.left_before(named)))
     }
 
     /// Appends a record and gives its number, which is at most `LOG_NUMBER_MAX`. It takes no memory.
+    ///
+    /// It costs two look-ups. A compensation reads also the records of its transaction, from the
+    /// write that it undoes back to the one that is to be undone next.
     pub fn append(&mut self, content: LogRec) -> u64
         requires room { 1 ≤ room self.old }
         requires numbers { next_number self.old ≤ LOG_NUMBER_MAX }
@@ -90,70 +110,114 @@ impl Log {
         ensures next { next_number self.new ≡ result + 1 }
         ensures keeps_room { room self.old ≤ room self.new + 1 }
     {
-        let number = self.next();
-        match self.records.push(content) {
-            Ok(()) => number,
-            Err(_) => unreachable!(),
-        }
+        let number = self.records.next();
+        let txn = content.txn();
+        let uncovered = self.uncovered(&content);
+        uncover(&mut self.index, uncovered);
+        let known = known_of(&self.index, txn);
+        let is_undone = self.records.is_named(number);
+        put(
+            &mut self.index,
+            txn,
+            known.with(&content, number, is_undone),
+        );
+        self.records.push(Slot {
+            content,
+            previous: known.last,
+            is_undone,
+        });
+        number
     }
 
     /// The record of a number, or `None` where the log does not keep it.
     pub fn at(&self, number: u64) -> Option<&LogRec>
         ensures { option_copied result ≡ content_at (entries self.now) number }
     {
-        if number < self.first {
-            return None;
-        }
-        self.records.at((number - self.first) as usize)
+        self.records.at(number)
+    }
+
+    // Whether a transaction is open.
+    fn is_open(&self, txn: TxnId) -> bool
+        ensures { result ≡ is_open (entries self.now) txn }
+    {
+        known_of(&self.index, txn).is_open()
     }
 
     /// The number of the first record of an open transaction, or the next number where none is open.
     ///
-    /// It reads the records before that one, and from each of these on to the End of its
-    /// transaction. A transaction without an End costs a walk over the whole log.
+    /// It reads the records before that one, and looks up the transaction of each.
     pub fn low(&self) -> u64
         ensures { result ≡ low_of (entries self.now) (next_number self.now) }
     {
-        scans::low_of(self.records.as_slice(), self.first)
+        for (index, slot) in self.records.as_slice().iter().enumerate() {
+            if self.is_open(slot.content.txn()) {
+                return self.records.first() + index as u64;
+            }
+        }
+        self.records.next()
     }
 
-    /// How far a transaction is.
-    ///
-    /// It walks from the end of the log. It stops once it has read an End of the transaction and a
-    /// record that opens it; where either is missing it reads the whole log.
+    /// How far a transaction is. It is one look-up.
     pub fn stage(&self, txn: TxnId) -> Stage
         ensures { result ≡ stage_of (entries self.now) txn }
     {
-        scans::stage_of(self.records.as_slice(), txn)
+        known_of(&self.index, txn).stage()
     }
 
     /// The numbers of all records of a transaction that are kept, of whichever kind, in order. It
-    /// walks over the log once.
+    /// reads these records alone.
     pub fn chain(&self, txn: TxnId) -> Result<NumberList, NoMemory>
         ensures { IfOk result (λ numbers. items numbers ≡ chain_of (entries self.now) txn) }
     {
-        scans::chain_of(self.alloc, self.records.as_slice(), self.first, txn)
+        let mut backward = NumberList::new(self.alloc);
+        let mut cursor = known_of(&self.index, txn).last;
+        while let Some(number) = cursor {
+            backward.push(number)?;
+            cursor = self.records.slot(number).previous;
+        }
+        reversed(self.alloc, backward)
     }
 
     /// The open transactions, by first log number.
     ///
-    /// It reads each record, and from it on to the End of its transaction. An open transaction
-    /// costs a walk over the whole log, once; so does each record of a transaction that was
-    /// decided here and neither began nor ended here.
+    /// It looks up the transaction of each record. A record of an open one costs also a walk over the
+    /// open ones that were found before it.
     pub fn unended(&self) -> Result<TxnList, NoMemory>
         ensures { IfOk result (λ txns. items txns ≡ unended_of (entries self.now)) }
     {
-        scans::open_txns(self.alloc, self.records.as_slice())
+        let mut txns = TxnList::new(self.alloc);
+        for slot in self.records.as_slice() {
+            let txn = slot.content.txn();
+            if self.is_open(txn) && !is_among(txns.as_slice(), txn) {
+                txns.push(txn)?;
+            }
+        }
+        Ok(txns)
     }
 
     /// The number of a transaction's last write that is not undone, or `None` where nothing is left
-    /// to undo.
-    ///
-    /// It walks from the end of the log, and from each write of the transaction on to its
-    /// compensation. It costs one more walk over the whole log to see that a write has none.
+    /// to undo. It is one look-up.
     pub fn rest_to_undo(&self, txn: TxnId) -> Option<u64>
         ensures { result ≡ first_number (rest_to_undo (entries self.now) txn) }
     {
-        scans::last_left(self.records.as_slice(), self.first, txn)
+        known_of(&self.index, txn).left
     }
+}
+
+// Whether the transaction is among these.
+fn is_among(txns: &[TxnId], txn: TxnId) -> bool
+    ensures { result ≡ is_among txn txns.now }
+{
+    txns.iter().any(|other| is_same_txn(txn, *other))
+}
+
+// The numbers from last to first.
+fn reversed(alloc: Global, mut numbers: NumberList) -> Result<NumberList, NoMemory>
+    ensures { IfOk result (λ turned. items turned ≡ reverse (items numbers)) }
+{
+    let mut turned = NumberList::new(alloc);
+    while let Some(number) = numbers.pop() {
+        turned.push(number)?;
+    }
+    Ok(turned)
 }

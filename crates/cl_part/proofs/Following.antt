@@ -11,12 +11,13 @@ use Rattle.cl_types.specs.Transactions.{same_txn}
 use Rattle.cl_types.proofs.Modes.{is_conflict-symmetric}
 use Rattle.cl_types.proofs.Transactions.{same_txn-true}
 use Rattle.cl_log.specs.declared.records.LogRec.{LogRec}
-use Rattle.cl_log.specs.declared.records.LogRec.TheVariants.{Set, Prepared, End}
+use Rattle.cl_log.specs.declared.records.LogRec.TheVariants.{Prepared, End}
 use Rattle.cl_log.specs.LogEntry.{LogEntry}
 use Rattle.cl_log.specs.Kind.{txn_of}
 use Rattle.cl_log.specs.Open.{has_ended, is_among}
 use Rattle.cl_log.specs.Rest.{rest_to_undo, undo_of}
 use Rattle.cl_log.specs.Store.{store_of_log}
+use Rattle.cl_log.proofs.KindFacts.{txn_of-undo_of}
 use Rattle.cl_log.proofs.Rest.{HeadsRest-from}
 use Rattle.cl_locks.specs.Grants.{Grant, is_of, is_in_conflict, first_conflict, own_grant, mode_held}
 use Rattle.cl_locks.proofs.GrantLists.{find-passes, mapped_none}
@@ -80,10 +81,6 @@ end_follows ledger v state txn commit at may = record {
 }
 
 -- ---- an undo step
-
-txn_of-undo_of : (content : LogRec) (number now : ℕ) → txn_of (undo_of content number now) ≡ txn_of content
-txn_of-undo_of (Set txn table key before old new) number now = refl
-txn_of-undo_of content number now = refl
 
 module _ (ledger : Ledger) (v : ℕ) (state : State) (txn : TxnId) where
   may_undo : (first : LogEntry) (others : List LogEntry) → rest_to_undo state.log txn ≡ first ∷ others → IsAt ledger v state → MayWork ledger v txn → MayUndo ledger v (undo_now state first)

@@ -7,11 +7,11 @@ use Rattle.cl_types.specs.declared.operations.TxnId.{TxnId}
 use Rattle.cl_types.specs.Transactions.{same_txn}
 use Rattle.cl_types.proofs.Transactions.{same_txn-symmetric}
 use Rattle.cl_log.specs.declared.records.LogRec.{LogRec}
-use Rattle.cl_log.specs.declared.records.LogRec.TheVariants.{Set, Add, End}
+use Rattle.cl_log.specs.declared.records.LogRec.TheVariants.{End}
 use Rattle.cl_log.specs.LogEntry.{LogEntry}
 use Rattle.cl_log.specs.Kind.{txn_of, is_of, is_end, can_be_undone}
 use Rattle.cl_log.specs.Open.{has_ended}
-use Rattle.cl_log.specs.Rest.{is_left_of, is_undone, rest_to_undo, undo_of}
+use Rattle.cl_log.specs.Rest.{is_left_of, is_undone, rest_to_undo}
 use Rattle.cl_log.proofs.Open.{has_ended_push}
 use Rattle.cl_part.specs.State.{State, next_entry, after_record}
 use Rattle.cl_sessions.specs.Serving.{count_writes}
@@ -98,14 +98,3 @@ rest_within log txn =
     subset true true c h = refl
     subset true false c h = h
     subset false b c h = h
-
--- a compensation
-pub is_end-undo_of : (content : LogRec) (number now : ℕ) → can_be_undone content ≡ true → is_end (undo_of content number now) ≡ false
-is_end-undo_of (Set txn table key before old new) number now h = refl
-is_end-undo_of (Add txn table key before amount) number now h = refl
-is_end-undo_of (End txn commit) number now h = absurd (let e : false ≡ true = h in cc)
-is_end-undo_of content number now h = refl
-
-pub txn_of-undo_of : (content : LogRec) (number now : ℕ) → txn_of (undo_of content number now) ≡ txn_of content
-txn_of-undo_of (Set txn table key before old new) number now = refl
-txn_of-undo_of content number now = refl

@@ -12,6 +12,7 @@ use Rattle.cl_log.specs.LogEntry.{LogEntry}
 use Rattle.cl_log.specs.Kind.{txn_of, is_of, is_end, can_be_undone}
 use Rattle.cl_log.specs.Open.{has_ended, is_among}
 use Rattle.cl_log.specs.Rest.{rest_to_undo}
+use Rattle.cl_log.proofs.KindFacts.{is_end-undo_of, txn_of-undo_of}
 use Rattle.cl_log.proofs.Rest.{HeadsRest-from, can_be_undone-undo_of}
 use Rattle.cl_order.proofs.LawLemmas.{steps_keep_order}
 use Rattle.cl_order.proofs.Records.{Fits, Fitting, record_fits}
@@ -25,7 +26,7 @@ use Rattle.cl_part.proofs.Rollback.{undo_takes_first}
 use Rattle.cl_part.proofs.Undoing.{after_undo-first}
 use Rattle.cl_sessions.specs.Serving.{KeepsWholeLog, count_writes}
 use Rattle.cl_sessions.specs.Turn.{undo_each, after_rollback, after_abort, after_commit}
-use Rattle.cl_sessions.proofs.Logs.{ended_unended, ended_end, next_recorded, writes_recorded, writes_unwritten, is_end-undo_of, txn_of-undo_of}
+use Rattle.cl_sessions.proofs.Logs.{ended_unended, ended_end, next_recorded, writes_recorded, writes_unwritten}
 use Rattle.cl_sessions.proofs.WholeLog.{calls_keep_whole_log}
 
 -- a ledger moved on with its participant: a transaction did something, ended or not, and joined the history or not
