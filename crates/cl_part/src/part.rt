@@ -223,7 +223,8 @@ impl Part {
     /// left to undo.
     ///
     /// It appends the compensation and writes the store. So a rollback that was cut off continues
-    /// where its log ends. The call walks the log from its end, as `Log::rest_to_undo` does.
+    /// where its log ends. Of the log it reads the records of the transaction, from the write back to
+    /// the one that is undone next.
     pub fn undo_one(&mut self, txn: TxnId) -> Result<bool, NoMemory>
         requires numbers { next_number self.old.log ≤ LOG_NUMBER_MAX }
         requires below { IsBelowNext self.old }

@@ -253,6 +253,84 @@ fn an_end_and_a_compensation_count_wherever_they_stand(rt: HostRuntime) -> Resul
     Ok(())
 }
 
+// What is left to undo and the records of a transaction, among those of others.
+#[test]
+fn a_transaction_is_told_from_others(rt: HostRuntime) -> Result<(), Fail> {
+    let turns = [
+        Told::Add(FIRST),
+        Told::Add(SECOND),
+        Told::Touch(FIRST),
+        Told::Add(SECOND),
+        Told::Add(FIRST),
+        Told::Comp(SECOND, 4),
+        Told::Comp(FIRST, 5),
+    ];
+    let by_another = [Told::Add(FIRST), Told::Add(FIRST), Told::Comp(SECOND, 2)];
+    let to_come = [
+        Told::Comp(SECOND, 3),
+        Told::Add(FIRST),
+        Told::Add(FIRST),
+        Told::Add(FIRST),
+        Told::Comp(FIRST, 4),
+    ];
+    let first_write = [Told::Add(FIRST), Told::Add(FIRST), Told::Comp(FIRST, 1)];
+    let rows = [
+        (
+            "the first of two that take turns",
+            turns.as_slice(),
+            FIRST,
+            Stage::Running,
+            [1, 3, 5, 7].as_slice(),
+            Some(1),
+        ),
+        (
+            "the second of them",
+            &turns,
+            SECOND,
+            Stage::Running,
+            &[2, 4, 6],
+            Some(2),
+        ),
+        (
+            "a write that another undoes",
+            &by_another,
+            FIRST,
+            Stage::Running,
+            &[1, 2],
+            Some(1),
+        ),
+        (
+            "a transaction that undoes another's",
+            &by_another,
+            SECOND,
+            Stage::Unknown,
+            &[3],
+            None,
+        ),
+        (
+            "a number to come",
+            &to_come,
+            FIRST,
+            Stage::Running,
+            &[2, 3, 4, 5],
+            Some(2),
+        ),
+        (
+            "a write before the last",
+            &first_write,
+            FIRST,
+            Stage::Running,
+            &[1, 2, 3],
+            Some(2),
+        ),
+    ];
+    for (name, records, txn, stage, chain, rest) in rows {
+        let log = told_log(&rt, rt.alloc(), records)?;
+        assert!(rt; stands(&log, txn, stage, chain, rest)?, "{name}");
+    }
+    Ok(())
+}
+
 // The undoing of the write of a number.
 fn undone(alloc: Global, entry: &LogRec, number: u64) -> Result<LogRec, NoMemory> {
     match entry {
