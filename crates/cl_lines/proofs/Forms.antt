@@ -28,7 +28,7 @@ passed true reading fault x e = (refl, e)
 passed false reading fault x e = absurd cc
 
 -- a word that passes the test for a word is that word
-word_is : (word form : List ℕ) → bytes_eq word form ≡ true → word ≡ form
+pub word_is : (word form : List ℕ) → bytes_eq word form ≡ true → word ≡ form
 word_is word form e = (bytes_eq-Decides word form).0 e
 
 -- the words are those of the command, which is askable

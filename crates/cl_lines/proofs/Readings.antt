@@ -1,12 +1,13 @@
--- Between a reading and its parts: the client line, the fault.
+-- Between a reading and its parts: the client line, the order, the fault.
 use Rattle.std.proofs.Common.{◌≡◌, ℕ, ◌≤◌, List, Some, None, Result, Ok, Err, ap}
 use Rattle.std.proofs.lemmas.Option.{some_pair_parts}
 use Rattle.cl_types.specs.declared.limits.TheConstants.{SESSIONS_MAX}
 use Rattle.cl_types.specs.declared.operations.Command.{Command}
 use Rattle.cl_lines.specs.declared.line.Line.{Line}
-use Rattle.cl_lines.specs.declared.line.Line.TheVariants.{Client}
+use Rattle.cl_lines.specs.declared.line.Line.TheVariants.{Client, Operator}
+use Rattle.cl_lines.specs.declared.line.Order.{Order}
 use Rattle.cl_lines.specs.declared.line.LineFault.{LineFault}
-use Rattle.cl_lines.specs.Line.{line_of, client_part, client_of, fault_part, fault_of}
+use Rattle.cl_lines.specs.Line.{line_of, client_part, client_of, order_part, order_of, fault_part, fault_of}
 use Rattle.cl_lines.proofs.Spellings.{spells_from_line}
 
 -- what was read as a client line is one
@@ -16,6 +17,22 @@ client_of-client bytes session command e = ap client_part e
 -- what has a fault is no client line
 pub client_of-fault : (bytes : List ℕ) (fault : LineFault) → line_of bytes ≡ Err fault → client_of bytes ≡ None
 client_of-fault bytes fault e = ap client_part e
+
+-- what was read as a client line gives no order
+pub order_of-client : (bytes : List ℕ) (session : ℕ) (command : Command) → line_of bytes ≡ Ok (Client session command) → order_of bytes ≡ None
+order_of-client bytes session command e = ap order_part e
+
+-- nor does what has a fault
+pub order_of-fault : (bytes : List ℕ) (fault : LineFault) → line_of bytes ≡ Err fault → order_of bytes ≡ None
+order_of-fault bytes fault e = ap order_part e
+
+-- what was read as an operator's line gives its order
+pub order_of-order : (bytes : List ℕ) (order : Order) → line_of bytes ≡ Ok (Operator order) → order_of bytes ≡ Some order
+order_of-order bytes order e = ap order_part e
+
+-- and is no client line
+pub client_of-order : (bytes : List ℕ) (order : Order) → line_of bytes ≡ Ok (Operator order) → client_of bytes ≡ None
+client_of-order bytes order e = ap client_part e
 
 -- what was read as a line has no fault
 pub fault_of-line : (bytes : List ℕ) (line : Line) → line_of bytes ≡ Ok line → fault_of bytes ≡ None
@@ -29,6 +46,7 @@ client_part-Some : (reading : Result Line LineFault) (session : ℕ) (command : 
 client_part-Some (Ok (Client n c)) session command e =
     let parts : (n ≡ session) × (c ≡ command) = some_pair_parts n session c command e in
     cc
+client_part-Some (Ok (Operator order)) session command e = absurd cc
 client_part-Some (Err f) session command e = absurd cc
 
 fault_part-Some : (reading : Result Line LineFault) (fault : LineFault) → fault_part reading ≡ Some fault → reading ≡ Err fault

@@ -1,30 +1,33 @@
 -- The spelling of a line.
-use Rattle.std.proofs.Common.{◌≡◌, ℕ, ◌≤◌, ◌&&◌, ◌^◌, Bool, true, false, not, cond, ltb, nat_le, List, [], ◌∷◌, length, codes, All, Option, Some, None, Result, Ok, Err, ℤ, pos, refl, sym, ap, ◌∙◌, arith}
+use Rattle.std.proofs.Common.{◌≡◌, ℕ, ◌≤◌, ◌&&◌, ◌^◌, inl, inr, Bool, true, false, not, cond, ltb, nat_le, List, [], ◌∷◌, length, codes, All, Option, Some, None, Result, Ok, Err, ℤ, pos, refl, sym, ap, ◌∙◌, arith}
 use Rattle.std.specs.List.{list_all, list_any, join_with_byte, AllByRecursion}
 use Rattle.std.proofs.lemmas.List.Splits.{slice_split_at, slice_split_none, join_with_byte-slice_split}
 use Rattle.cl_types.specs.declared.operations.Command.{Command}
 use Rattle.cl_types.specs.declared.operations.Command.TheVariants.{Begin, Work, Commit, Abort}
 use Rattle.cl_types.specs.declared.operations.Op.TheVariants.{Get, Put, Del, Add}
 use Rattle.std.specs.Char.{is_ascii_lowercase, is_ascii_graphic}
+use Rattle.std.specs.Str.{bytes_eq}
 use Rattle.std.specs.Fmt.{decimal, signed_decimal}
-use Rattle.std.proofs.lemmas.Bool.{lt-ltb, le-ltb, ne_eqb, le-leb, leb-true}
+use Rattle.std.proofs.lemmas.Bool.{cases_Bool, lt-ltb, le-ltb, ne_eqb, le-leb, leb-true}
 use Rattle.cl_types.specs.declared.limits.TheConstants.{SESSIONS_MAX}
 use Rattle.cl_types.specs.declared.names.TheConstants.{TABLE_NAME_MAX, KEY_MAX}
 use Rattle.cl_types.specs.declared.value.TheConstants.{VALUE_MAX}
 use Rattle.cl_types.specs.Names.{is_between, is_table_name, is_key, is_key_byte, is_value}
-use Rattle.cl_types.specs.Decimal.{natural_64, is_signed_64}
+use Rattle.cl_types.specs.Decimal.{natural_64, natural, in_unsigned_64, is_signed_64}
 use Rattle.cl_types.proofs.DecimalLaws.{natural_64-decimal, natural_64-text, is_value-signed_decimal}
 use Rattle.cl_lines.specs.declared.line.TheConstants.{LINE_MAX}
 use Rattle.cl_lines.specs.declared.line.Line.{Line}
-use Rattle.cl_lines.specs.declared.line.Line.TheVariants.{Client}
+use Rattle.cl_lines.specs.declared.line.Line.TheVariants.{Client, Operator}
+use Rattle.cl_lines.specs.declared.line.Order.{Order}
+use Rattle.cl_lines.specs.declared.line.Order.TheVariants.{Quiet}
 use Rattle.cl_lines.specs.declared.line.LineFault.{LineFault}
 use Rattle.cl_lines.specs.declared.line.LineFault.TheVariants.{Length, Words, Session}
-use Rattle.cl_lines.specs.Line.{session_numbered, session_of, command_of, in_session, line_of_words, line_of}
+use Rattle.cl_lines.specs.Line.{session_numbered, session_of, command_of, in_session, quiet_line, line_of_words, line_of}
 use Rattle.cl_lines.specs.Words.{words, is_empty}
-use Rattle.cl_lines.specs.Spelling.{command_words, spelling}
+use Rattle.cl_lines.specs.Spelling.{command_words, spelling, order_spelling}
 use Rattle.cl_lines.specs.Laws.{IsAskable, Spells}
 use Rattle.cl_lines.proofs.Cuts.{is_blank}
-use Rattle.cl_lines.proofs.Forms.{forms_from_reading, reading_from_askable}
+use Rattle.cl_lines.proofs.Forms.{word_is, forms_from_reading, reading_from_askable}
 use Rattle.cl_lines.proofs.Lengths.{spelling_within}
 use Rattle.cl_lines.proofs.Bytes.{both, All-from_list_all, not_equal}
 
@@ -139,11 +142,27 @@ session_written : (session : ℕ) → 1 ≤ session → session ≤ SESSIONS_MAX
 session_written session from to =
     rw (natural_64-decimal session (omega arith), le-leb 1 session from, le-leb session SESSIONS_MAX to) refl
 
+-- QUIET is the number of no session
+not_quiet : (session : ℕ) → 1 ≤ session → session ≤ SESSIONS_MAX → bytes_eq (decimal session) (codes "QUIET") ≡ false
+unfolding natural_64 natural in_unsigned_64
+not_quiet session from to = elim (cases_Bool (bytes_eq (decimal session) (codes "QUIET"))) [
+  | inl same ↦
+      (let read : session_of (codes "QUIET") ≡ Ok session = ap session_of (sym (word_is (decimal session) (codes "QUIET") same)) ∙ session_written session from to in
+      absurd cc)
+  | inr other ↦ other
+]
+
+-- a client line does not begin with QUIET
+not_order : (b : Bool) (others : List (List ℕ)) (reading : Result Line LineFault) (session : ℕ) (command : Command) → cond b (quiet_line others) reading ≡ Ok (Client session command) → (b ≡ false) × (reading ≡ Ok (Client session command))
+not_order true [] reading session command e = absurd cc
+not_order true (word ∷ others) reading session command e = absurd cc
+not_order false others reading session command e = (refl, e)
+
 spells_from_words : (bytes : List ℕ) (ws : List (List ℕ)) (session : ℕ) (command : Command) → words bytes ≡ ws → line_of_words ws ≡ Ok (Client session command) → Spells bytes session command
 unfolding spelling
 spells_from_words bytes [] session command cut e = absurd cc
 spells_from_words bytes (first ∷ others) session command cut e =
-    let parts = parts_from_line (session_of first) (command_of others) session command e in
+    let parts = parts_from_line (session_of first) (command_of others) session command (not_order (bytes_eq first (codes "QUIET")) others _ session command e).1 in
     let numbered = session_read first session parts.session_is in
     let forms = forms_from_reading others command parts.command_is in
     let all_words : words bytes ≡ decimal session ∷ command_words command =
@@ -170,4 +189,49 @@ line_from_spells bytes session command h =
     ap (λ (line : List ℕ). ltb LINE_MAX (length line)) h.bytes_are ∙ le-ltb _ _ (spelling_within session command h.session_to h.askable) in
     let cut : words bytes ≡ decimal session ∷ command_words command =
     ap words h.bytes_are ∙ words-join (decimal session) (command_words command) clean in
-    rw (short, cut, none_empty (decimal session ∷ command_words command) clean, reading_from_askable command h.askable, session_written session h.session_from h.session_to) refl
+    rw (short, cut, none_empty (decimal session ∷ command_words command) clean, not_quiet session h.session_from h.session_to, reading_from_askable command h.askable, session_written session h.session_from h.session_to) refl
+
+-- ---- the lines of operators
+
+-- an operator's line is of no session
+not_client : (session : Result ℕ LineFault) (asked : Option (Result Command LineFault)) (order : Order) → in_session session asked ≡ Ok (Operator order) → ⊥
+not_client (Ok n) (Some (Ok c)) order e = absurd cc
+not_client (Ok n) (Some (Err f)) order e = absurd cc
+not_client (Err f) (Some c) order e = absurd cc
+not_client session None order e = absurd cc
+
+-- a reading of words as an order: they are QUIET alone
+record IsQuiet (is_quiet : Bool) (others : List (List ℕ)) (order : Order) : Type 0 where
+  first : is_quiet ≡ true
+  alone : others ≡ []
+  order_is : Quiet ≡ order
+
+quiet_read : (b : Bool) (others : List (List ℕ)) (session : Result ℕ LineFault) (asked : Option (Result Command LineFault)) (order : Order) →
+    cond b (quiet_line others) (in_session session asked) ≡ Ok (Operator order) → IsQuiet b others order
+quiet_read true [] session asked order e = record { first = refl; alone = refl; order_is = cc }
+quiet_read true (word ∷ others) session asked order e = absurd cc
+quiet_read false others session asked order e = absurd (not_client session asked order e)
+
+order_from_words : (bytes : List ℕ) (ws : List (List ℕ)) (order : Order) → words bytes ≡ ws → line_of_words ws ≡ Ok (Operator order) → bytes ≡ order_spelling order
+order_from_words bytes [] order cut e = absurd cc
+order_from_words bytes (first ∷ others) order cut e =
+    let quiet = quiet_read (bytes_eq first (codes "QUIET")) others (session_of first) (command_of others) order e in
+    let all_words : words bytes ≡ codes "QUIET" ∷ [] =
+    cut ∙ ap (λ (word : List ℕ). word ∷ others) (word_is first (codes "QUIET") quiet.first) ∙ ap (λ (rest : List (List ℕ)). codes "QUIET" ∷ rest) quiet.alone in
+    sym (join-words bytes) ∙ ap (λ (ws : List (List ℕ)). join_with_byte 32 ws) all_words ∙ ap order_spelling quiet.order_is
+
+-- what is read as an order is its spelling
+pub order_from_line : (bytes : List ℕ) (order : Order) → line_of bytes ≡ Ok (Operator order) → bytes ≡ order_spelling order
+unfolding line_of
+order_from_line bytes order e =
+    let fits = passes (ltb LINE_MAX (length bytes)) Length _ (Operator order) e in
+    let full = passes (list_any is_empty (words bytes)) Words (line_of_words (words bytes)) (Operator order) fits.1 in
+    order_from_words bytes (words bytes) order refl full.1
+
+-- the spelling of an order is read as it
+read_alone : (order : Order) → line_of (order_spelling order) ≡ Ok (Operator order)
+unfolding line_of words
+read_alone Quiet = refl
+
+pub line_from_order : (bytes : List ℕ) (order : Order) → bytes ≡ order_spelling order → line_of bytes ≡ Ok (Operator order)
+line_from_order bytes order spelled = ap line_of spelled ∙ read_alone order

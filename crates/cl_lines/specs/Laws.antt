@@ -8,11 +8,12 @@ use Rattle.cl_types.specs.declared.answers.Outcome.TheVariants.{Done}
 use Rattle.cl_types.specs.declared.limits.TheConstants.{SESSIONS_MAX}
 use Rattle.cl_types.specs.Names.{is_table_name, is_key, is_value}
 use Rattle.cl_types.specs.Decimal.{is_signed_64}
-use Rattle.cl_lines.specs.declared.line.Line.TheVariants.{Client}
+use Rattle.cl_lines.specs.declared.line.Line.TheVariants.{Client, Operator}
+use Rattle.cl_lines.specs.declared.line.Order.{Order}
 use Rattle.cl_lines.specs.declared.out.Out.{Out}
 use Rattle.cl_lines.specs.declared.out.Out.TheVariants.{Answer}
 use Rattle.cl_lines.specs.Line.{line_of}
-use Rattle.cl_lines.specs.Spelling.{spelling}
+use Rattle.cl_lines.specs.Spelling.{spelling, order_spelling}
 use Rattle.cl_lines.specs.Out.{text_of}
 
 -- a command that a line can ask: the names of its record, the value that it writes and the amount that it adds are lawful
@@ -37,6 +38,11 @@ abbrev pub OneSpelling : Type 0
 OneSpelling =
     (bytes : List ℕ) (session : ℕ) (command : Command)
     → (line_of bytes ≡ Ok (Client session command)) ↔ Spells bytes session command
+
+-- a line is read as an order exactly where it is the spelling of that order
+abbrev pub OneOrderSpelling : Type 0
+OneOrderSpelling =
+    (bytes : List ℕ) (order : Order) → (line_of bytes ≡ Ok (Operator order)) ↔ (bytes ≡ order_spelling order)
 
 -- one line: bytes other than the newline, and a newline
 pub record IsOneLine (text : List ℕ) : Type 0 where

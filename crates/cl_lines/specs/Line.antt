@@ -12,9 +12,11 @@ use Rattle.cl_types.specs.Names.{is_between, is_table_name, is_key, is_value}
 use Rattle.cl_types.specs.Decimal.{natural_64, number}
 use Rattle.cl_lines.specs.declared.line.TheConstants.{LINE_MAX}
 use Rattle.cl_lines.specs.declared.line.Line.{Line}
-use Rattle.cl_lines.specs.declared.line.Line.TheVariants.{Client}
+use Rattle.cl_lines.specs.declared.line.Line.TheVariants.{Client, Operator}
 use Rattle.cl_lines.specs.declared.line.LineFault.{LineFault}
 use Rattle.cl_lines.specs.declared.line.LineFault.TheVariants.{Length, Words, Session, Table, Key, Value, Number}
+use Rattle.cl_lines.specs.declared.line.Order.{Order}
+use Rattle.cl_lines.specs.declared.line.Order.TheVariants.{Quiet}
 use Rattle.cl_lines.specs.declared.line.Unread.{Unread}
 use Rattle.cl_lines.specs.declared.line.Unread.TheVariants.{Fault, NoMemory}
 use Rattle.cl_lines.specs.Words.{words, is_empty}
@@ -83,10 +85,16 @@ in_session (Err fault) (Some command) = Err fault
 in_session (Ok session) (Some (Err fault)) = Err fault
 in_session (Ok session) (Some (Ok command)) = Ok (Client session command)
 
--- the line of these words
+-- the line of QUIET and these words after it: there may be none
+abbrev pub quiet_line : List (List ℕ) → Result Line LineFault
+quiet_line [] = Ok (Operator Quiet)
+quiet_line (word ∷ others) = Err Words
+
+-- the line of these words: the first one is QUIET, or names the session of a client's line
 abbrev pub line_of_words : List (List ℕ) → Result Line LineFault
 line_of_words [] = Err Words
-line_of_words (session ∷ others) = in_session (session_of session) (command_of others)
+line_of_words (first ∷ others) =
+    if bytes_eq first (codes "QUIET") then quiet_line others else in_session (session_of first) (command_of others)
 
 -- the line that the bytes are, or their first fault
 unfoldable pub line_of : List ℕ → Result Line LineFault
@@ -97,11 +105,22 @@ line_of bytes =
 -- the session and the command of a reading that is a client line
 abbrev pub client_part : Result Line LineFault → Option (ℕ × Command)
 client_part (Ok (Client session command)) = Some (session, command)
+client_part (Ok (Operator order)) = None
 client_part (Err fault) = None
 
 -- the session and the command of a well-formed client line
 abbrev pub client_of : List ℕ → Option (ℕ × Command)
 client_of bytes = client_part (line_of bytes)
+
+-- the order of a reading that is an operator's line
+abbrev pub order_part : Result Line LineFault → Option Order
+order_part (Ok (Client session command)) = None
+order_part (Ok (Operator order)) = Some order
+order_part (Err fault) = None
+
+-- the order of a well-formed operator's line
+abbrev pub order_of : List ℕ → Option Order
+order_of bytes = order_part (line_of bytes)
 
 -- the fault of a reading that is one
 abbrev pub fault_part : Result Line LineFault → Option LineFault

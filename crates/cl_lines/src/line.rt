@@ -7,11 +7,20 @@ use cl_types::{Command, NoMemory};
 /// The most bytes in a line, without its newline.
 pub const LINE_MAX: usize = 256;
 
+/// What an operator's line asks of the server.
+#[derive(Clone, Copy, Debug, PartialEq, Eq)]
+pub enum Order {
+    /// Wait for a quiet moment. Nothing is printed for it.
+    Quiet,
+}
+
 /// A well-formed line.
 #[derive(Debug, PartialEq, Eq, Drop)]
 pub enum Line {
     /// A command in the session of that number.
     Client(u32, Command),
+    /// An order, which is of no session.
+    Operator(Order),
 }
 
 /// Why a line is not well formed. A line is tested for each fault in this order, and has the first
@@ -22,7 +31,7 @@ pub enum LineFault {
     Length,
     /// A word is empty, or the words are no form of a line.
     Words,
-    /// The first word is no number from 1 to `SESSIONS_MAX` in canonical decimal.
+    /// The first word of a client's line is no number from 1 to `SESSIONS_MAX` in canonical decimal.
     Session,
     /// The third word is no table name.
     Table,

@@ -1,13 +1,14 @@
-//! Reading a line: first the form of its words, then its session, then the arguments in their order.
+//! Reading a line: an operator's by its first word; of a client's first the form of its words, then its session,
+//! then the arguments in their order.
 ghost use Rattle.std.specs.Prelude.{◌≡◌, [], ◌∷◌, Ok, Err};
 ghost use Rattle.std.specs.List.{list_any};
 ghost use Rattle.std.specs.Option.{option_map};
 ghost use Rattle.cl_lines.specs.Words.{words, is_empty};
-ghost use Rattle.cl_lines.specs.Line.{ReadsLine, session_of, bare_command, bare_operation, operation_with, command_of, line_of};
+ghost use Rattle.cl_lines.specs.Line.{ReadsLine, session_of, bare_command, bare_operation, operation_with, command_of, quiet_line, line_of};
 ghost use Rattle.cl_lines.specs.Forms.{operation_of, command_of_form};
 
 use crate::words::Words;
-use crate::{Command, LINE_MAX, Line, LineFault, Unread};
+use crate::{Command, LINE_MAX, Line, LineFault, Order, Unread};
 use cl_types::{Key, Op, SESSIONS_MAX, TableName, Value, natural_of, number_of_text};
 use std::alloc::Global;
 
@@ -135,6 +136,16 @@ fn read_command(alloc: Global, form: Form<'_>) -> Result<Command, Unread>
     }
 }
 
+// The line of QUIET, after which these words stand.
+fn read_quiet(mut others: Words<'_>) -> Result<Line, Unread>
+    ensures { ReadsLine result (quiet_line others.entry) }
+{
+    if others.next().is_some() {
+        return Err(LineFault::Words.into());
+    }
+    Ok(Line::Operator(Order::Quiet))
+}
+
 /// Reads a line, given without its newline.
 ///
 /// It allocates for the value of a PUT alone and runs in linear time; no contract says so.
@@ -150,9 +161,12 @@ pub fn read_line(alloc: Global, text: &[u8]) -> Result<Line, Unread>
         return Err(LineFault::Words.into());
     }
     let mut words = Words::of(text);
-    let session = words.next().ok_or(LineFault::Words)?;
+    let first = words.next().ok_or(LineFault::Words)?;
+    if first == b"QUIET".as_slice() {
+        return read_quiet(words);
+    }
     let form = form_of(words).ok_or(LineFault::Words)?;
-    let session = read_session(session)?;
+    let session = read_session(first)?;
     let command = read_command(alloc, form)?;
     Ok(Line::Client(session, command))
 }
