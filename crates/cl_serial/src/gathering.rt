@@ -76,7 +76,7 @@ fn add_answer(
     Ok(())
 }
 
-// Adds what a fed line asks.
+// Adds what a fed line asks. An operator's line asks nothing.
 fn add_line(alloc: Global, logs: &mut Logs, position: u64, text: &[u8]) -> Result<(), NoMemory>
     ensures { OnOk result ((session : ℕ) →
         log_at logs.new session ≡ with_more (log_at logs.old session) (command_in session position (client_of text.now)) []) }
@@ -88,6 +88,7 @@ fn add_line(alloc: Global, logs: &mut Logs, position: u64, text: &[u8]) -> Resul
             session,
             (command, position),
         ),
+        Ok(Line::Operator(_)) => Ok(()),
         Err(Unread::Fault(_)) => Ok(()),
         Err(Unread::NoMemory) => Err(NoMemory),
     }
