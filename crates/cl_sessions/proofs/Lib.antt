@@ -5,7 +5,9 @@ pub mod Orders
 pub mod Turns
 pub mod Grown
 pub mod Causes
+pub mod Unasked
 pub mod Refused
+pub mod Passed
 pub mod Well
 pub mod Logs
 pub mod WholeLog

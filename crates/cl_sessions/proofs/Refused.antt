@@ -1,5 +1,5 @@
 -- One more line that is refused: what was promised of the transcript holds of the longer one.
-use Rattle.std.proofs.Common.{◌≡◌, ℕ, ◌+◌, ◌<◌, inl, List, [], ◌∷◌, ◌++◌, length, Some, None, sym, ◌∙◌, ap, subst, arith}
+use Rattle.std.proofs.Common.{◌≡◌, ℕ, ◌+◌, ◌<◌, List, [], ◌∷◌, ◌++◌, length, Some, None, sym, ◌∙◌, ap, subst, arith}
 use Rattle.std.proofs.lemmas.List.{append-nil}
 use Rattle.cl_types.specs.declared.operations.TxnId.{TxnId}
 use Rattle.cl_types.specs.declared.answers.AbortCause.{AbortCause}
@@ -10,46 +10,29 @@ use Rattle.cl_lines.specs.Line.{client_of, fault_of}
 use Rattle.cl_serial.specs.Causes.{IsTrueCause, TrueCauses}
 use Rattle.cl_serial.specs.Exchanges.{Exchange}
 use Rattle.cl_serial.specs.Transcript.{TranscriptEntry, fed, written, questions, answers, command_in, faulty_lines, numbered_fault}
-use Rattle.cl_serial.specs.Transactions.{Session, session_state, commands_in, commands_of, numbered}
+use Rattle.cl_serial.specs.Transactions.{session_state, commands_of}
 use Rattle.cl_serial.specs.Serial.{StandsAt, IsIn, IsAnswered, CommittedForMembers, RefusalsTrue, EveryLineAnswered}
-use Rattle.cl_serial.proofs.Growth.{all_of}
-use Rattle.cl_serial.proofs.SameSession.{session_state-same, follow-same, fit-same, answered-same}
+use Rattle.cl_serial.proofs.SameSession.{follow-same, fit-same, answered-same}
 use Rattle.cl_sessions.specs.Serving.{AreLawful, IsAnsweredWell}
-use Rattle.cl_sessions.proofs.Causes.{Grows, IsAnswered-grows, IsTrueCause-grows, line_within}
 use Rattle.cl_sessions.proofs.Pairs.{with_pair, length-with_pair, questions-with_pair, answers-with_pair, faulty_lines-with_pair, refusals-with_pair}
 use Rattle.cl_sessions.proofs.Standing.{Standing, before, the_line, the_answer, standing, line_stands, answer_stands, fault_in, refusal-before, refusal-after}
-use Rattle.cl_sessions.proofs.Turns.{lawful_idle}
+use Rattle.cl_sessions.proofs.Unasked.{for_member, still_paired, still_lawful, still_caused}
 
 module _ (transcript : List TranscriptEntry) (number : ℕ) (text : List ℕ) (fault : LineFault) (reads : client_of text ≡ None) (faulty : fault_of text ≡ Some fault) where
   abbrev longer : List TranscriptEntry
   longer = with_pair transcript number text (BadLine number fault)
 
-  same_questions : (session : ℕ) → questions session longer ≡ questions session transcript
+  pub same_questions : (session : ℕ) → questions session longer ≡ questions session transcript
   same_questions session = questions-with_pair session transcript number text (BadLine number fault)
       ∙ ap (λ line. questions session transcript ++ command_in session (length transcript) line) reads ∙ append-nil (questions session transcript)
 
-  same_answers : (session : ℕ) → answers session longer ≡ answers session transcript
+  pub same_answers : (session : ℕ) → answers session longer ≡ answers session transcript
   same_answers session = answers-with_pair session transcript number text (BadLine number fault) ∙ append-nil (answers session transcript)
-
-  -- each session stays as it was
-  pub same_state : (session : ℕ) → session_state session longer ≡ session_state session transcript
-  same_state session = session_state-same longer transcript session (same_questions session) (same_answers session)
-
-  pub same_commands : (name : TxnId) → commands_of longer name ≡ commands_of transcript name
-  same_commands name = ap (λ (s : Session). commands_in (numbered (all_of s) name.number)) (same_state name.session)
-
-  pub grows : Grows transcript longer
-  grows = record {
-    kept = λ name exchange h. let P : List Exchange → Type 0 = λ list. IsIn list exchange in subst P (sym (same_commands name)) h;
-    back = λ name exchange h. let P : List Exchange → Type 0 = λ list. IsIn list exchange in inl (subst P (same_commands name) h);
-  }
 
   members_before : (history : List TxnId) → CommittedForMembers transcript history → (session position : ℕ) →
       Standing transcript (fed number text) (written (BadLine number fault)) (written (Answer session Committed)) position →
       (n : ℕ) × IsIn history (record { session = session; number = n }) × IsAnswered longer (record { session = session; number = n }) Committed position
-  members_before history members session position (before at) =
-      let found = members session position at in
-      (found.0, found.1, IsAnswered-grows transcript longer grows _ Committed position found.2)
+  members_before history members session position (before at) = for_member transcript longer same_questions same_answers history members session position at
   members_before history members session position (the_line at is) = absurd (cc)
   members_before history members session position (the_answer at is) = absurd (cc)
 
@@ -58,9 +41,7 @@ module _ (transcript : List TranscriptEntry) (number : ℕ) (text : List ℕ) (f
         Standing transcript (fed number text) (written (BadLine number fault)) (written (Answer session (Aborted cause))) position →
         (n : ℕ) × (asked : Exchange) × IsIn (commands_of longer (record { session = session; number = n })) asked
         × (asked.answer ≡ Some (Aborted cause, position)) × IsTrueCause longer (record { session = session; number = n }) asked cause
-    causes_before causes session position cause (before at) =
-        let found = causes session position cause at in
-        (found.0, found.1, grows.kept _ found.1 found.2, found.3, IsTrueCause-grows transcript longer grows _ found.1 cause (line_within transcript lawful _ found.1 found.2) found.4)
+    causes_before causes session position cause (before at) = still_caused transcript longer same_questions same_answers lawful causes session position cause at
     causes_before causes session position cause (the_line at is) = absurd (cc)
     causes_before causes session position cause (the_answer at is) = absurd (cc)
 
@@ -89,23 +70,20 @@ module _ (transcript : List TranscriptEntry) (number : ℕ) (text : List ℕ) (f
 
   -- a line that is refused
   pub IsAnsweredWell-refused : (history : List TxnId) → IsAnsweredWell transcript history → IsAnsweredWell longer history
-  IsAnsweredWell-refused history h =
-      let P : ℕ → Session → Type 0 = λ size session. AreLawful session.ended session.current size in
-      record {
-        paired = λ session. ap length (same_questions session) ∙ h.paired session ∙ sym (ap length (same_answers session));
-        lawful = λ session. subst (P (length longer)) (sym (same_state session))
-            (subst (λ size. P size (session_state session transcript)) (sym (length-with_pair transcript number text (BadLine number fault))) (lawful_idle _ _ (length transcript) (h.lawful session)));
-        for_members = λ session position at. members_before history h.for_members session position (standing transcript number text (BadLine number fault) position (written (Answer session Committed)) at);
-        follow = λ session. follow-same longer transcript session (same_questions session) (same_answers session) h.follow;
-        fit_turns = λ session. fit-same longer transcript session (same_questions session) (same_answers session) h.fit_turns;
-        refused_once = faulty_lines-with_pair transcript number text (BadLine number fault)
-            ∙ ap (λ has. faulty_lines transcript ++ numbered_fault number has) faulty
-            ∙ ap (λ list. list ++ (number, fault) ∷ []) h.refused_once
-            ∙ sym (refusals-with_pair transcript number text (BadLine number fault));
-        causes = λ session position cause at. causes_before h.lawful h.causes session position cause (standing transcript number text (BadLine number fault) position (written (Answer session (Aborted cause))) at);
-        refused = λ position line given at. refused_before h.refused position line given (standing transcript number text (BadLine number fault) position (written (BadLine line given)) at);
-        every_line = record {
-          answered = λ session. answered-same longer transcript session (same_questions session) (same_answers session) h.every_line;
-          refused = λ position line refused given at is. refused_after h.every_line position line refused given (standing transcript number text (BadLine number fault) position (fed line refused) at) is;
-        };
-      }
+  IsAnsweredWell-refused history h = record {
+    paired = still_paired transcript longer same_questions same_answers h.paired;
+    lawful = still_lawful transcript longer same_questions same_answers h.lawful (let size = length-with_pair transcript number text (BadLine number fault) in omega (arith, size));
+    for_members = λ session position at. members_before history h.for_members session position (standing transcript number text (BadLine number fault) position (written (Answer session Committed)) at);
+    follow = λ session. follow-same longer transcript session (same_questions session) (same_answers session) h.follow;
+    fit_turns = λ session. fit-same longer transcript session (same_questions session) (same_answers session) h.fit_turns;
+    refused_once = faulty_lines-with_pair transcript number text (BadLine number fault)
+        ∙ ap (λ has. faulty_lines transcript ++ numbered_fault number has) faulty
+        ∙ ap (λ list. list ++ (number, fault) ∷ []) h.refused_once
+        ∙ sym (refusals-with_pair transcript number text (BadLine number fault));
+    causes = λ session position cause at. causes_before h.lawful h.causes session position cause (standing transcript number text (BadLine number fault) position (written (Answer session (Aborted cause))) at);
+    refused = λ position line given at. refused_before h.refused position line given (standing transcript number text (BadLine number fault) position (written (BadLine line given)) at);
+    every_line = record {
+      answered = λ session. answered-same longer transcript session (same_questions session) (same_answers session) h.every_line;
+      refused = λ position line refused given at is. refused_after h.every_line position line refused given (standing transcript number text (BadLine number fault) position (fed line refused) at) is;
+    };
+  }

@@ -34,8 +34,8 @@ use Rattle.cl_serial.specs.Causes.{IsConflict}
 use Rattle.cl_serial.specs.Exchanges.{Exchange, outcome_of, pair_up, in_turn}
 use Rattle.cl_serial.specs.PlainMap.{operations}
 use Rattle.cl_serial.specs.Serial.{IsIn, RealTimeOrder}
-use Rattle.cl_serial.specs.Transactions.{Transaction, Session, session_state, commands_in, commands_of, numbered, is_end}
-use Rattle.cl_serial.specs.Transcript.{TranscriptEntry, gather}
+use Rattle.cl_serial.specs.Transactions.{Transaction, session_state, commands_in, commands_of, numbered, is_end}
+use Rattle.cl_serial.specs.Transcript.{TranscriptEntry, gather, questions, answers}
 use Rattle.cl_sessions.specs.Serving.{IsGoingOn, count_in, is_past, open_name, done_of, done_among, has_committed, is_committed_outcome, IsAnsweredWell, IsTold, Serves}
 use Rattle.cl_sessions.specs.Turn.{turn_outcome, turn_state, turn_history, work_outcome}
 use Rattle.cl_sessions.proofs.Causes.{joined, Grows, Grows-longer}
@@ -44,11 +44,13 @@ use Rattle.cl_sessions.proofs.Grown.{is_number_next, is_number_next-length}
 use Rattle.cl_sessions.proofs.Guarantee.{HaveBegun-told}
 use Rattle.cl_sessions.proofs.Pairs.{with_pair, exchange_at, length-with_pair}
 use Rattle.cl_sessions.proofs.RealTime.{KeepsBegins, KeepsBegins-longer, RealTimeOrder-same, RealTimeOrder-joined, committed_after_begin}
-use Rattle.cl_sessions.proofs.Refused.{IsAnsweredWell-refused, same_state, same_commands, grows}
+use Rattle.cl_sessions.proofs.Passed.{with_line, length-with_line, IsAnsweredWell-passed, same_questions as passed_questions, same_answers as passed_answers}
+use Rattle.cl_sessions.proofs.Refused.{IsAnsweredWell-refused, same_questions, same_answers}
 use Rattle.cl_sessions.proofs.Shapes.{Ends, ends_last, ends_from, shape, outcome_from}
 use Rattle.cl_sessions.proofs.Told.{IsTold-longer}
 use Rattle.cl_sessions.proofs.Turned.{IsTurned, MayTurnIn, turned, length-done_among}
 use Rattle.cl_sessions.proofs.Turns.{IsTurn, turn_outcome-turn}
+use Rattle.cl_sessions.proofs.Unasked.{grows, begun, still_told}
 use Rattle.cl_sessions.proofs.Well.{IsAnsweredWell-answered, IsAnsweredWell-new}
 
 -- ---- the open transaction of a session
@@ -221,33 +223,40 @@ module _ (transcript : List TranscriptEntry) (number : ℕ) (text : List ℕ) (f
   abbrev refused : List TranscriptEntry
   refused = with_pair transcript number text (BadLine number fault)
 
-  told_refused : IsTold refused history state h.ledger
-  told_refused = record {
-    on = h.told.on;
-    at = h.told.at;
-    history_is = h.told.history_is;
-    done_is = λ name. h.told.done_is name ∙ ap done_among (sym (same_commands transcript number text fault reads faulty name));
-    ordered = h.told.ordered;
-    ended = λ name. h.told.ended name ∙ ap (λ (s : Session). is_past s.ended name.number) (sym (same_state transcript number text fault reads faulty name.session));
-    members = λ name. h.told.members name ∙ ap has_committed (sym (same_commands transcript number text fault reads faulty name));
-    whole = λ session transaction is.
-        let same = same_state transcript number text fault reads faulty session in
-        let same_name : open_name refused session ≡ open_name transcript session = ap (λ (s : Session). record { session = session; number = suc (length s.ended) }) same in
-        subst (λ name. Rattle.cl_order.specs.Ledger.IsWholeOn h.ledger name 0) (sym same_name) (h.told.whole session transaction (ap (λ (s : Session). s.current) (sym same) ∙ is));
-    writes = λ name. let w = h.told.writes name in let e : length (done_of refused name) ≡ length (done_of transcript name) = ap (λ list. length (done_among list)) (same_commands transcript number text fault reads faulty name) in omega (arith, w, e);
-  }
+  asked : (session : ℕ) → questions session refused ≡ questions session transcript
+  asked = same_questions transcript number text fault reads faulty
 
-  begins_refused : KeepsBegins transcript refused
-  begins_refused name transaction is =
-      (transaction, ap (λ (s : Session). numbered (Rattle.cl_serial.proofs.Growth.all_of s) name.number) (same_state transcript number text fault reads faulty name.session) ∙ is, refl)
+  answered : (session : ℕ) → answers session refused ≡ answers session transcript
+  answered = same_answers transcript number text fault reads faulty
 
   pub Serves-refused : Serves refused history state
   Serves-refused = record {
     well = IsAnsweredWell-refused transcript number text fault reads faulty history h.well;
-    real_time = RealTimeOrder-same transcript refused (grows transcript number text fault reads faulty) begins_refused h.well.lawful history (HaveBegun-told transcript history state h.well h.ledger h.told) h.real_time;
+    real_time = RealTimeOrder-same transcript refused (grows transcript refused asked answered) (begun transcript refused asked answered) h.well.lawful history (HaveBegun-told transcript history state h.well h.ledger h.told) h.real_time;
     ledger = h.ledger;
-    told = told_refused;
+    told = still_told transcript refused asked answered history state h.ledger h.told;
     few_records = (let was = h.few_records in let size = length-with_pair transcript number text (BadLine number fault) in omega (arith, was, size));
+  }
+
+-- ---- one more line that is passed over
+
+module _ (transcript : List TranscriptEntry) (number : ℕ) (text : List ℕ) (reads : client_of text ≡ None) (clean : fault_of text ≡ None) (history : List TxnId) (state : State) (h : Serves transcript history state) where
+  abbrev passed : List TranscriptEntry
+  passed = with_line transcript number text
+
+  asked_as_before : (session : ℕ) → questions session passed ≡ questions session transcript
+  asked_as_before = passed_questions transcript number text reads clean
+
+  answered_as_before : (session : ℕ) → answers session passed ≡ answers session transcript
+  answered_as_before = passed_answers transcript number text reads clean
+
+  pub Serves-passed : Serves passed history state
+  Serves-passed = record {
+    well = IsAnsweredWell-passed transcript number text reads clean history h.well;
+    real_time = RealTimeOrder-same transcript passed (grows transcript passed asked_as_before answered_as_before) (begun transcript passed asked_as_before answered_as_before) h.well.lawful history (HaveBegun-told transcript history state h.well h.ledger h.told) h.real_time;
+    ledger = h.ledger;
+    told = still_told transcript passed asked_as_before answered_as_before history state h.ledger h.told;
+    few_records = (let was = h.few_records in let size = length-with_line transcript number text in omega (arith, was, size));
   }
 
 -- ---- nothing so far

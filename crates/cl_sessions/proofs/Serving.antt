@@ -13,7 +13,8 @@ use Rattle.cl_types.specs.declared.answers.AbortCause.TheVariants.{Client}
 use Rattle.cl_types.specs.declared.answers.Outcome.{Outcome}
 use Rattle.cl_types.specs.declared.answers.Outcome.TheVariants.{Done, Full}
 use Rattle.cl_types.specs.declared.answers.Reply.{Reply}
-use Rattle.cl_lines.specs.declared.line.Line.TheVariants.{Client}
+use Rattle.cl_lines.specs.declared.line.Line.TheVariants.{Client, Operator}
+use Rattle.cl_lines.specs.declared.line.Order.{Order}
 use Rattle.cl_lines.specs.declared.line.LineFault.{LineFault}
 use Rattle.cl_lines.specs.declared.out.Out.TheVariants.{Answer, BadLine}
 use Rattle.cl_lines.specs.Line.{line_of, client_of, client_part, fault_of, fault_part}
@@ -36,10 +37,12 @@ use Rattle.cl_sessions.proofs.Answered.{questions-others, answers-others, sessio
 use Rattle.cl_sessions.proofs.Guarantee.{Explains-serving}
 use Rattle.cl_sessions.proofs.Logs.{rest_within}
 use Rattle.cl_sessions.proofs.Pairs.{with_pair, exchange_at}
-use Rattle.cl_sessions.proofs.Refused.{same_state}
-use Rattle.cl_sessions.proofs.Served.{Serves-answered, Serves-refused, commands_open}
+use Rattle.cl_sessions.proofs.Passed.{with_line, same_questions as passed_questions, same_answers as passed_answers}
+use Rattle.cl_sessions.proofs.Refused.{same_questions, same_answers}
+use Rattle.cl_sessions.proofs.Served.{Serves-answered, Serves-refused, Serves-passed, commands_open}
 use Rattle.cl_sessions.proofs.Turned.{length-done_among}
 use Rattle.cl_sessions.proofs.Turns.{next}
+use Rattle.cl_sessions.proofs.Unasked.{same_state}
 
 -- how far a session is by its transactions
 abbrev counts_by : Session → Counts
@@ -231,7 +234,20 @@ IsServingAt-refused server transcript number text fault line h = record {
   is_state = h.is_state;
   serves = Serves-refused transcript number text fault (ap client_part line) (ap fault_part line) (entries server.history) h.state h.serves;
   sessions = h.sessions;
-  counts = λ index below. h.counts index below ∙ ap counts_by (sym (same_state transcript number text fault (ap client_part line) (ap fault_part line) (index + 1)));
+  counts = λ index below. h.counts index below ∙ ap counts_by (sym (same_state transcript (with_pair transcript number text (BadLine number fault))
+      (same_questions transcript number text fault (ap client_part line) (ap fault_part line)) (same_answers transcript number text fault (ap client_part line) (ap fault_part line)) (index + 1)));
+}
+
+-- an operator's line
+pub IsServingAt-passed : (server : Server) (transcript : List TranscriptEntry) (number : ℕ) (text : List ℕ) (order : Order) → line_of text ≡ Ok (Operator order) → IsServingAt server transcript →
+    IsServingAt server (with_line transcript number text)
+IsServingAt-passed server transcript number text order line h = record {
+  state = h.state;
+  is_state = h.is_state;
+  serves = Serves-passed transcript number text (ap client_part line) (ap fault_part line) (entries server.history) h.state h.serves;
+  sessions = h.sessions;
+  counts = λ index below. h.counts index below ∙ ap counts_by (sym (same_state transcript (with_line transcript number text)
+      (passed_questions transcript number text (ap client_part line) (ap fault_part line)) (passed_answers transcript number text (ap client_part line) (ap fault_part line)) (index + 1)));
 }
 
 -- the server as it is with one line more

@@ -69,14 +69,17 @@ pub AllByRecursion-push : {X : Type 0} (P : X → Type 0) (xs : List X) (y : X) 
 AllByRecursion-push P [] y h k = (k, tt)
 AllByRecursion-push P (x ∷ xs) y h k = (h.0, AllByRecursion-push P xs y h.1 k)
 
-pub lawful_idle : (ended : List Transaction) (current : Option Transaction) (size : ℕ) → AreLawful ended current size → AreLawful ended current (size + 2)
-lawful_idle ended current size h = record {
+pub lawful_later : (ended : List Transaction) (current : Option Transaction) (size later : ℕ) → size ≤ later → AreLawful ended current size → AreLawful ended current later
+lawful_later ended current size later grown h = record {
   have_ended = h.have_ended;
   going_on = h.going_on;
   at_most = h.at_most;
-  in_order = InOrder-longer _ size (size + 2) (omega arith) h.in_order;
-  few = omega (arith, h.few);
+  in_order = InOrder-longer _ size later grown h.in_order;
+  few = omega (arith, h.few, grown);
 }
+
+pub lawful_idle : (ended : List Transaction) (current : Option Transaction) (size : ℕ) → AreLawful ended current size → AreLawful ended current (size + 2)
+lawful_idle ended current size h = lawful_later ended current size (size + 2) (omega arith) h
 
 lawful_begun : (ended : List Transaction) (size : ℕ) → AreLawful ended None size → AreLawful ended (Some (begun_at size)) (size + 2)
 lawful_begun ended size h = record {

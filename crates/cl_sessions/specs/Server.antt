@@ -1,11 +1,12 @@
 -- What the server and its participant keep together.
-use Rattle.std.specs.Prelude.{◌≡◌, ℕ, ◌+◌, ◌-◌, ◌<◌, ◌≤◌, List, [], ◌∷◌, ◌++◌, length, None, slice_index_or, slice_set}
+use Rattle.std.specs.Prelude.{◌≡◌, ℕ, ◌+◌, ◌-◌, ◌<◌, ◌≤◌, List, [], ◌∷◌, ◌++◌, length, Option, Some, None, slice_index_or, slice_set}
 use Rattle.std.specs.Option.{option_to_list}
 use Rattle.cl_types.specs.AppendOnlyList.{entries}
 use Rattle.cl_types.specs.declared.limits.TheConstants.{OPERATIONS_MAX, SESSIONS_MAX}
 use Rattle.cl_types.specs.declared.answers.Outcome.{Outcome}
 use Rattle.cl_types.specs.declared.operations.Command.{Command}
 use Rattle.cl_types.specs.declared.operations.TxnId.{TxnId}
+use Rattle.cl_lines.specs.declared.line.Order.{Order}
 use Rattle.cl_lines.specs.declared.out.Out.{Out}
 use Rattle.cl_log.specs.Rest.{rest_to_undo}
 use Rattle.cl_log.specs.declared.log.TheConstants.{LOG_NUMBER_MAX}
@@ -59,6 +60,16 @@ pub record IsServingAt (server : Server) (transcript : List TranscriptEntry) : T
 abbrev pub IsServing : Server → Type 0
 IsServing server = IsServingAt server (transcript_of server.transcript)
 
--- the same, but that the last line and what is written for it are not in the transcript yet
-abbrev pub IsServingWith : Server → ℕ → List ℕ → Out → Type 0
-IsServingWith server number text out = IsServingAt server ((transcript_of server.transcript ++ fed number text ∷ []) ++ written out ∷ [])
+-- the entry of what is printed for a line, if anything is
+abbrev pub printed : Option Out → List TranscriptEntry
+printed None = []
+printed (Some out) = written out ∷ []
+
+-- what is printed for a line, by the order that it gives: one line, but nothing for an operator's line
+abbrev pub PrintsFor : Option Order → List TranscriptEntry → Type 0
+PrintsFor None entries = (out : Out) × (entries ≡ written out ∷ [])
+PrintsFor (Some order) entries = entries ≡ []
+
+-- the same, but that the last line and what is printed for it are not in the transcript yet
+abbrev pub IsServingWith : Server → ℕ → List ℕ → Option Out → Type 0
+IsServingWith server number text out = IsServingAt server ((transcript_of server.transcript ++ fed number text ∷ []) ++ printed out)

@@ -154,7 +154,7 @@ pub record IsTold (transcript : List TranscriptEntry) (history : List TxnId) (st
   -- each write in the log is an operation that was done
   pub writes : (name : TxnId) → count_writes name state.log ≤ length (done_of transcript name)
 
--- a line is two entries of the transcript, and appends at most a record for each operation that it rolls back, and an End
+-- a line that appends records is two entries of the transcript, and appends at most one for each operation that it rolls back, and an End
 abbrev pub IsWithinLines : State → List TranscriptEntry → Type 0
 IsWithinLines state transcript = 2 * state.next ≤ (OPERATIONS_MAX + 1) * length transcript + 2
 

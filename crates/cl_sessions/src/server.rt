@@ -1,12 +1,12 @@
 //! The server: one line after another, of any session.
-ghost use Rattle.std.specs.Prelude.{◌≡◌, ℕ, ◌+◌, ◌-◌, ◌<◌, ◌≤◌, ◌^◌, [], ◌∷◌, ◌++◌, Some, IfOk, OnOk, OnErr, slice_index_or, length};
+ghost use Rattle.std.specs.Prelude.{◌≡◌, ℕ, ◌+◌, ◌-◌, ◌<◌, ◌≤◌, ◌^◌, [], ◌∷◌, ◌++◌, List, Some, IfOk, OnOk, OnErr, slice_index_or, length};
 ghost use Rattle.cl_types.specs.AppendOnlyList.{entries, room};
 ghost use Rattle.cl_types.specs.GrowingList.{items};
-ghost use Rattle.cl_lines.specs.declared.out.Out.{Out as Printed};
+ghost use Rattle.cl_lines.specs.Line.{order_of};
 ghost use Rattle.cl_part.specs.Sound.{IsSound};
 ghost use Rattle.cl_part.specs.State.{State, IsStateOf};
-ghost use Rattle.cl_serial.specs.Transcript.{transcript_of, fed, written};
-ghost use Rattle.cl_sessions.specs.Server.{CanAbort, HasTurned, IsServing, IsServingWith, no_counts};
+ghost use Rattle.cl_serial.specs.Transcript.{TranscriptEntry, transcript_of, fed};
+ghost use Rattle.cl_sessions.specs.Server.{CanAbort, HasTurned, IsServing, IsServingWith, PrintsFor, printed, no_counts};
 ghost use Rattle.cl_sessions.specs.Explains.{Explains};
 ghost use Rattle.cl_sessions.specs.Turn.{history_inside, outcome_outside, counts_outside};
 
@@ -29,15 +29,6 @@ pub struct Server {
     pub part: Part,
     // How far each session is; session 1 stands at index 0.
     pub sessions: [Counts; SESSIONS],
-}
-
-// The session and the command of a client's line.
-fn client_parts(line: Line) -> (u32, Command)
-    ensures { line ≡ Line.Client result.0 result.1 }
-{
-    match line {
-        Line::Client(session, command) => (session, command),
-    }
 }
 
 // Appends the name of a transaction to the history where its command is COMMIT.
@@ -72,6 +63,17 @@ fn respond_outside(begun: u64, command: &Command) -> (Outcome, Counts)
                 operations: None,
             },
         ),
+    }
+}
+
+// Appends a line and what is printed for it.
+fn push_line(transcript: &mut Transcript, number: u64, text: Text, out: Option<Out>)
+    requires { 2 ≤ room transcript.old }
+    ensures { transcript_of transcript.new ≡ (transcript_of transcript.old ++ fed number (items text) ∷ []) ++ printed out }
+{
+    transcript.push_reserved(Said::In(number, text));
+    if let Some(out) = out {
+        transcript.push_reserved(Said::Out(out));
     }
 }
 
@@ -129,26 +131,29 @@ impl Server {
         Ok(outcome)
     }
 
-    // Answers a line, but leaves the transcript as it is.
-    fn answer(&mut self, alloc: Global, number: u64, line: &[u8]) -> Result<Out, NoMemory>
+    // What is printed for a line, which is not put into the transcript. An operator's line waits for a quiet moment, and
+    // each moment between two lines is quiet.
+    fn answer(&mut self, alloc: Global, number: u64, line: &[u8]) -> Result<Option<Out>, NoMemory>
         requires serving { IsServing self.old }
         requires room { 1 ≤ room self.old.history }
         requires few { length (transcript_of self.old.transcript) < 2 ^ 32 }
         ensures serving { IfOk result (λ out. IsServingWith self.new number line.now out) }
+        ensures prints { IfOk result (λ out. PrintsFor (order_of line.now) (printed out)) }
         ensures transcript { self.new.transcript ≡ self.old.transcript }
         ensures err { OnErr result (entries self.new.history ≡ entries self.old.history) }
     {
         match read_line(alloc, line) {
-            Ok(line) => {
-                let (session, command) = client_parts(line);
-                Ok(Out::Answer(session, self.respond(session, &command)?))
+            Ok(Line::Client(session, command)) => {
+                let outcome = self.respond(session, &command)?;
+                Ok(Some(Out::Answer(session, outcome)))
             }
-            Err(Unread::Fault(fault)) => Ok(Out::BadLine(number, fault)),
+            Ok(Line::Operator(_)) => Ok(None),
+            Err(Unread::Fault(fault)) => Ok(Some(Out::BadLine(number, fault))),
             Err(Unread::NoMemory) => Err(NoMemory),
         }
     }
 
-    /// Answers a line.
+    /// Answers a line. For an operator's line it prints nothing.
     ///
     /// After an error the transcript and the history are as they were, and the history still explains
     /// the transcript. A rollback may have begun, so the server may only be dropped or taken apart.
@@ -156,8 +161,8 @@ impl Server {
         requires serving { IsServing self.old }
         requires few { length (transcript_of self.old.transcript) < 2 ^ 32 }
         ensures serving { OnOk result (IsServing self.new) }
-        ensures fed { OnOk result ((out : Printed) × (transcript_of self.new.transcript
-            ≡ (transcript_of self.old.transcript ++ fed number line.now ∷ []) ++ written out ∷ [])) }
+        ensures fed { OnOk result ((entries : List TranscriptEntry) × PrintsFor (order_of line.now) entries
+            × (transcript_of self.new.transcript ≡ (transcript_of self.old.transcript ++ fed number line.now ∷ []) ++ entries)) }
         ensures explained { Explains (transcript_of self.new.transcript) (entries self.new.history) }
         ensures err_transcript { OnErr result (transcript_of self.new.transcript ≡ transcript_of self.old.transcript) }
         ensures err_history { OnErr result (entries self.new.history ≡ entries self.old.history) }
@@ -166,8 +171,7 @@ impl Server {
         self.history.reserve(1)?;
         let text = Text::copy_of(alloc, line)?;
         let out = self.answer(alloc, number, line)?;
-        self.transcript.push_reserved(Said::In(number, text));
-        self.transcript.push_reserved(Said::Out(out));
+        push_line(&mut self.transcript, number, text, out);
         Ok(())
     }
 

@@ -1,14 +1,9 @@
 -- What is kept is explained, before the line and after it.
-use Rattle.std.proofs.Common.{◌≡◌, ℕ, List, [], ◌∷◌, ◌++◌, map, refl, ◌∙◌, ap, subst, sym}
-use Rattle.std.proofs.lemmas.List.{map-append}
-use Rattle.cl_types.specs.declared.growing_list.GrowingList.{GrowingList}
-use Rattle.cl_types.specs.GrowingList.{items}
-use Rattle.cl_lines.specs.declared.out.Out.{Out}
-use Rattle.cl_serial.specs.declared.transcript.Said.{Said}
-use Rattle.cl_serial.specs.declared.transcript.Said.TheVariants.{In, Out as Printed}
+use Rattle.std.proofs.Common.{◌≡◌, List, [], ◌∷◌, ◌++◌, map, refl, ◌∙◌, ap, subst, sym}
 use Rattle.cl_types.specs.declared.operations.TxnId.{TxnId}
-use Rattle.cl_serial.specs.Transcript.{TranscriptEntry, transcript_of, transcript_entry, fed, written}
+use Rattle.cl_serial.specs.Transcript.{TranscriptEntry, transcript_of, transcript_entry, fed}
 use Rattle.cl_sessions.specs.Explains.{Explains}
+use Rattle.cl_sessions.specs.Server.{printed}
 use Rattle.cl_sessions.proofs.Serving.{Explains-at}
 use Rattle.cl_sessions.proofs.server.Server.feed.Goals as goal
 
@@ -17,15 +12,6 @@ explained : (old new : List TranscriptEntry) (before after : List TxnId) → Exp
 explained old new before after h same_transcript same_history =
     let P : List TranscriptEntry → Type 0 = λ t. Explains t after in
     subst P (sym same_transcript) (subst (Explains old) (sym same_history) h)
-
--- the transcript with the line and what was written for it
-pushed : (es one two : List Said) (number : ℕ) (text : GrowingList ℕ) (line : List ℕ) (out : Out) → one ≡ es ++ In number text ∷ [] → two ≡ one ++ Printed out ∷ [] → items text ≡ line →
-    map transcript_entry two ≡ (map transcript_entry es ++ fed number line ∷ []) ++ written out ∷ []
-pushed es one two number text line out first second same =
-    ap (map transcript_entry) (second ∙ ap (λ (list : List Said). list ++ Printed out ∷ []) first)
-    ∙ map-append transcript_entry (es ++ In number text ∷ []) (Printed out ∷ [])
-    ∙ ap (λ list. list ++ written out ∷ []) (map-append transcript_entry es (In number text ∷ []))
-    ∙ ap (λ bytes. (map transcript_entry es ++ fed number bytes ∷ []) ++ written out ∷ []) same
 
 pub returns-in_err-reserve-clause-explained : goal.returns-in_err-reserve-clause-explained
 returns-in_err-reserve-clause-explained c =
@@ -47,4 +33,4 @@ returns-in_err-out-clause-explained c =
 pub returns-clause-explained : goal.returns-clause-explained
 returns-clause-explained c =
     explained _ _ _ _ (Explains-at c.answer.new.self _ c.in_ok-out.ensures.serving)
-    (pushed _ _ _ _ _ _ _ c.push_reserved.ensures.entries c.push_reserved-2.ensures.entries c.in_ok-text.ensures) refl
+    (c.push_line.ensures ∙ ap (λ bytes. (transcript_of c.answer.new.self.transcript ++ fed c.args.number bytes ∷ []) ++ printed c.in_ok-out.out) c.in_ok-text.ensures) refl
