@@ -9,13 +9,12 @@ use Rattle.cl_serial.specs.Transcript.{transcript_of, full_text}
 use Rattle.cl_serial.specs.Serial.{Serializable, OpenRepliesAgree, EveryLineAnswered}
 use Rattle.cl_serial.specs.Causes.{TrueCauses}
 use Rattle.cl_part.specs.State.{new_state}
-use Rattle.cl_sessions.specs.Explains.{Explains}
 use Rattle.cl_sessions.proofs.Guarantee.{Explains-serving}
 use Rattle.cl_sessions.proofs.Served.{Serves-new}
 use Rattle.clustra.specs.declared.ended.TheConstants.{DONE, READ_FAULT, WRITE_FAULT, TOO_MUCH_INPUT, NO_MEMORY}
 use Rattle.clustra.specs.declared.ended.Kept.{Kept}
 use Rattle.clustra.specs.Run.{ReadsInput, WritesText, WritesAll}
-use Rattle.clustra.specs.RunEnds.{EndsSource, EndsSink, Ran}
+use Rattle.clustra.specs.RunEnds.{Ran}
 use Rattle.clustra.proofs.Runs.{ReadsInput-nothing}
 
 -- an allocation failed before anything was read

@@ -1,5 +1,5 @@
 -- What is kept says what was done; and nothing was where an allocation failed before the words could be had.
-use Rattle.std.proofs.Common.{◌≡◌, ◌∙◌, inl, inr}
+use Rattle.std.proofs.Common.{◌∙◌, inl, inr}
 use Rattle.clustra.proofs.Ran.{Ran-nothing, Ran-kept}
 use Rattle.clustra.proofs.run_program.Goals as goal
 
