@@ -50,7 +50,8 @@ pub fn clustra<R: Threads + Wait + Sync, S: Source, K: Sink, G: Gate + Sync>(
     ensures open_replies { IfSome result.kept (λ kept. OpenRepliesAgree (transcript_of kept.transcript) (entries kept.history)) }
     ensures causes { IfSome result.kept (λ kept. TrueCauses (transcript_of kept.transcript)) }
 
-    // Every line that was fed is answered. After a read that failed and after too much input none was.
+    // Every client's line and every faulty line that was fed is answered. After a read that failed and after too much
+    // input none was fed.
     ensures answered { IfSome result.kept (λ kept. EveryLineAnswered (transcript_of kept.transcript)) }
     ensures nothing_fed { IfSome result.kept (λ kept. (result.status ≡ READ_FAULT) ⊎ (result.status ≡ TOO_MUCH_INPUT)
         → (transcript_of kept.transcript ≡ []) × (entries kept.history ≡ [])) }

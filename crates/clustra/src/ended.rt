@@ -15,7 +15,7 @@ pub struct Ended {
     pub kept: Option<Kept>,
 }
 
-/// The source was read to its end, every line was answered, and every answer written and flushed.
+/// The source was read to its end, its lines were answered, and every answer written and flushed.
 pub const DONE: u8 = 0;
 /// The words are not the one word `serve`. Nothing was read or written.
 pub const USAGE: u8 = 2;

@@ -165,6 +165,11 @@ const FAULTS: (&[u8], &[u8]) = (
     b"* ERR LINE 1 WORDS\n* ERR LINE 2 SESSION\n* ERR LINE 3 SESSION\n* ERR LINE 4 SESSION\n* ERR LINE 5 WORDS\n* ERR LINE 6 WORDS\n* ERR LINE 7 TABLE\n* ERR LINE 8 KEY\n* ERR LINE 9 NUMBER\n* ERR LINE 10 NUMBER\n",
 );
 
+const QUIET: (&[u8], &[u8]) = (
+    b"1 BEGIN\nQUIET\n1 COMMIT\nQUIET 1\n",
+    b"1 OK\n1 COMMITTED\n* ERR LINE 4 WORDS\n",
+);
+
 #[test]
 fn sessions_are_answered(rt: HostRuntime) -> Result<(), Fail> {
     let rows = [
@@ -177,6 +182,7 @@ fn sessions_are_answered(rt: HostRuntime) -> Result<(), Fail> {
         ("an abort undoes each write", ROLLBACK),
         ("a subscriber and a credit", CREDIT),
         ("each fault has its name", FAULTS),
+        ("nothing is printed for an operator's line", QUIET),
     ];
     for (name, (input, output)) in rows {
         let holds = ends_so(&rt, rt.alloc(), &served(name, input, output))?;
