@@ -1,7 +1,7 @@
 //! Lines that are read and lines that are printed, with texts from outside the program.
 use cl_lines::{
-    Command, LINE_MAX, Line, LineFault, Out, Unread, each_answer_is_one_line,
-    each_command_has_one_line, print_out, read_line,
+    Command, LINE_MAX, Line, LineFault, Order, Out, Unread, each_answer_is_one_line,
+    each_command_has_one_line, each_order_has_one_line, print_out, read_line,
 };
 use cl_samples::value;
 use cl_types::{AbortCause, NoMemory, Op, Outcome, Reply, TxnId};
@@ -22,7 +22,9 @@ enum Asked {
 
 // Whether the line asks this of the session.
 fn asks(line: &Line, session: u32, asked: Asked) -> bool {
-    let Line::Client(its_session, command) = line;
+    let Line::Client(its_session, command) = line else {
+        return false;
+    };
     let is_asked = match (command, asked) {
         (Command::Begin, Asked::Begin) => true,
         (Command::Commit, Asked::Commit) => true,
@@ -94,6 +96,12 @@ fn each_command_is_read(rt: HostRuntime) {
     }
 }
 
+#[test]
+fn the_order_is_read(rt: HostRuntime) {
+    let line = read_line(rt.alloc(), b"QUIET");
+    assert!(rt; line == Ok(Line::Operator(Order::Quiet)));
+}
+
 // The fault of the line, if it has one, unless an allocation fails.
 fn fault_of(alloc: Global, line: &[u8]) -> Result<Option<LineFault>, NoMemory> {
     match read_line(alloc, line) {
@@ -105,7 +113,7 @@ fn fault_of(alloc: Global, line: &[u8]) -> Result<Option<LineFault>, NoMemory> {
 
 #[test]
 fn each_fault_is_told(rt: HostRuntime) -> Result<(), Fail> {
-    let rows: [(&str, LineFault); 45] = [
+    let rows: [(&str, LineFault); 54] = [
         ("", LineFault::Words),
         (" ", LineFault::Words),
         ("1", LineFault::Words),
@@ -130,13 +138,22 @@ fn each_fault_is_told(rt: HostRuntime) -> Result<(), Fail> {
         ("STOP", LineFault::Words),
         ("STOP 1", LineFault::Words),
         ("STOP 01", LineFault::Words),
-        ("QUIET", LineFault::Words),
+        ("QUIET x", LineFault::Words),
+        ("QUIET BEGIN", LineFault::Words),
+        ("QUIET GET t a", LineFault::Words),
+        ("QUIET ", LineFault::Words),
+        (" QUIET", LineFault::Words),
+        ("QUIET\r", LineFault::Words),
+        ("QUIETS", LineFault::Words),
+        ("quiet", LineFault::Words),
+        ("1 QUIET", LineFault::Words),
         ("AUDIT", LineFault::Words),
         ("DUMP PRIMARY 0", LineFault::Words),
         ("REPAIR 0", LineFault::Words),
         ("0 BEGIN", LineFault::Session),
         ("65 BEGIN", LineFault::Session),
         ("01 BEGIN", LineFault::Session),
+        ("quiet BEGIN", LineFault::Session),
         ("-1 BEGIN", LineFault::Session),
         ("18446744073709551617 BEGIN", LineFault::Session),
         ("1 GET T a", LineFault::Table),
@@ -188,7 +205,7 @@ fn repeated(alloc: Global, front: &[u8], byte: u8, times: usize) -> Result<Vec<u
 
 #[test]
 fn lengths_have_their_limits(rt: HostRuntime) -> Result<(), Fail> {
-    let rows: [(&[u8], u8, usize, Option<LineFault>); 12] = [
+    let rows: [(&[u8], u8, usize, Option<LineFault>); 14] = [
         (b"1 GET t ", b'k', 32, None),
         (b"1 GET t ", b'k', 33, Some(LineFault::Key)),
         (b"1 PUT t k ", b'v', 128, None),
@@ -199,6 +216,8 @@ fn lengths_have_their_limits(rt: HostRuntime) -> Result<(), Fail> {
         (b"1 PUT T k ", b'v', 247, Some(LineFault::Length)),
         (b"", b'x', LINE_MAX, Some(LineFault::Words)),
         (b"", b'x', LINE_MAX + 1, Some(LineFault::Length)),
+        (b"QUIET ", b'x', 250, Some(LineFault::Words)),
+        (b"QUIET ", b'x', 251, Some(LineFault::Length)),
         (b"", b' ', LINE_MAX, Some(LineFault::Words)),
         (b"", b' ', LINE_MAX + 1, Some(LineFault::Length)),
     ];
@@ -282,5 +301,6 @@ fn each_answer_is_printed(rt: HostRuntime) -> Result<(), Fail> {
 #[test]
 fn the_laws_are_called() {
     each_command_has_one_line();
+    each_order_has_one_line();
     each_answer_is_one_line();
 }
