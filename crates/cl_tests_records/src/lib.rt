@@ -1,6 +1,8 @@
-//! Tests of locks, stores, logs, redo, participants and packets through their public calls, a module for each crate.
+//! Tests of locks, stores, logs, redo, participants, controllers and packets through their public calls, a module for each crate.
 #![tactic(auto)]
 
+#[cfg(test)]
+mod control;
 #[cfg(test)]
 mod locks;
 #[cfg(test)]

@@ -1,0 +1,11 @@
+pub mod CallSoundness
+pub mod Decides
+pub mod Entries
+pub mod EntrySoundness
+pub mod GivenActs
+pub mod Kept
+pub mod Names
+pub mod Soundness
+pub mod Tables
+pub mod VirtualNodes
+pub mod Waiters
