@@ -1,5 +1,6 @@
 //! The roster itself: a list of entries that only grows, and what stands after them.
 ghost use Rattle.std.specs.Prelude.{◌≡◌, ◌==◌, ◌&&◌, not, ◌+◌, ◌<◌, ◌≤◌, ◌↔◌, [], ◌∷◌, ◌++◌, length, take, None, IsTrue, IsOk, OnOk, OnErr, IfSome};
+ghost use Rattle.cl_types.specs.Placement.{IsNodeCount};
 ghost use Rattle.cl_roster.specs.Roles.{roles_after};
 ghost use Rattle.cl_roster.specs.Roster.{IsClusterSize, IsLawfulEntry, IsLawfulRoster, entry_at, has_stopped, is_living, lowest_alone, site, spare_of, stop_verdict};
 
@@ -79,6 +80,14 @@ impl Roster {
     {
         // To read a field is to know the invariant.
         let _nodes = self.nodes;
+    }
+
+    /// Returns how many nodes there are without the spares. There are as many virtual nodes.
+    pub fn nodes(&self) -> u32
+        ensures nodes { result ≡ self.now.nodes }
+        ensures counted { IsNodeCount result }
+    {
+        self.nodes
     }
 
     /// Returns how many entries there are.

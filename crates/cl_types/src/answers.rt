@@ -94,6 +94,17 @@ pub enum Refused {
     Spent,
 }
 
+impl From<NoMemory> for Refused {
+    ghost use Rattle.std.specs.Prelude.{◌≡◌};
+    ghost use Rattle.cl_types.specs.declared.answers.Refused.{Refused};
+
+    ghost from_gives = { λ _ refused. refused ≡ Refused.NoMemory };
+
+    fn from(_error: NoMemory) -> Refused {
+        Refused::NoMemory
+    }
+}
+
 impl Reply {
     /// Another reply of the same content. It allocates only for a value.
     pub fn copy(&self, alloc: Global) -> Result<Reply, NoMemory>

@@ -97,6 +97,13 @@ impl<T> GrowingList<T> {
     {
         self.items.as_slice()
     }
+
+    /// The items, first to last, taken out.
+    pub fn into_items(self) -> Vec<T>
+        ensures { result.items ≡ items self }
+    {
+        self.items
+    }
 }
 
 impl GrowingList<u8> {
