@@ -1,0 +1,3 @@
+pub mod Endpoint
+pub mod Emission
+pub mod Laws
