@@ -1,0 +1,8 @@
+//! An actor as a core, which decides, and an endpoint, which has to do with packets.
+#![tactic(auto)]
+
+mod acting;
+mod deciding;
+
+pub use acting::Acting;
+pub use deciding::Core;
