@@ -176,10 +176,11 @@ is_logged (Asked command v) = false
 is_logged (Preparing command) = false
 is_logged (Decided command) = false
 
--- those with a number at most this one, and those above it
+-- those with a number at most this one
 abbrev pub up_to : ℕ → List Told → List Told
 up_to number tolds = filter (λ told. nat_le told.number number) tolds
 
+-- those with a number above this one
 abbrev pub above : ℕ → List Told → List Told
 above number tolds = filter (λ told. nat_lt number told.number) tolds
 
