@@ -11,7 +11,7 @@ use Rattle.cl_types.specs.Transactions.{same_txn}
 use Rattle.cl_types.proofs.Modes.{is_conflict-symmetric}
 use Rattle.cl_types.proofs.Transactions.{same_txn-true}
 use Rattle.cl_log.specs.declared.records.LogRec.{LogRec}
-use Rattle.cl_log.specs.declared.records.LogRec.TheVariants.{Prepared, End}
+use Rattle.cl_log.specs.declared.records.LogRec.TheVariants.{Prepared, End, Decide}
 use Rattle.cl_log.specs.LogEntry.{LogEntry}
 use Rattle.cl_log.specs.Kind.{txn_of}
 use Rattle.cl_log.specs.Open.{has_ended, is_among}
@@ -25,7 +25,7 @@ use Rattle.cl_order.specs.Ledger.{stored_at, Ledger, log_at, lock_at, IsOrdered}
 use Rattle.cl_order.specs.Operations.{mode_of, record_of}
 use Rattle.cl_order.specs.Steps.{Step, carry_out, join, log_with, log_with_optional, logs_with, record_now, after_step, after_steps, AreEnabled, MayCarryOut, MayUndo, new_ledger}
 use Rattle.cl_order.proofs.LawLemmas.{steps_keep_order, new_ordered}
-use Rattle.cl_part.specs.Calls.{answer_by, answer_to, ask_op, prepare, undo_one, end, refusing, record_left, unless_refused, first_undone, after_op, after_prepare, after_end, after_undo, place_of, undo_now}
+use Rattle.cl_part.specs.Calls.{answer_by, answer_to, ask_op, prepare, decide, undo_one, end, refusing, record_left, unless_refused, first_undone, after_op, after_prepare, after_decide, after_end, after_undo, place_of, undo_now}
 use Rattle.cl_part.specs.Laws.{AnswersAreNoted, step_asked, step_undoing, steps_of, MayWork, MayCall, IsAt, FollowsCall, CallsAreSteps, CallsKeepOrder, Event, calls, joins, steps_of_event, after_event, MayHappen, MayHappenInTurn, ledger_after, state_after, EventsMakeOrder}
 use Rattle.cl_part.specs.Sound.{IsReplicaOf}
 use Rattle.cl_part.specs.State.{State, new_state}
@@ -66,12 +66,18 @@ logs_with-own logs v log = cond-true _ _ _ (eq-eqb v v refl)
 at_log : (ledger : Ledger) (v : ℕ) (log : List LogEntry) (state : State) → IsReplicaOf log state → IsReplicaOf (logs_with ledger.logs v log v) state
 at_log ledger v log state replica = subst (λ l. IsReplicaOf l state) (sym (logs_with-own ledger.logs v log)) replica
 
--- ---- the vote and the end
+-- ---- the vote, the decision, and the end
 
 prepare_follows : (ledger : Ledger) (v : ℕ) (state : State) (txn : TxnId) → IsAt ledger v state → MayCall ledger v (prepare txn) → FollowsCall ledger v state (prepare txn)
 prepare_follows ledger v state txn at may = record {
   enabled = (may, tt);
   after = at_log ledger v (log_with (ledger.logs v) (Prepared txn)) (after_prepare state txn) (calls_keep_replica (ledger.logs v) state (prepare txn) at tt);
+}
+
+decide_follows : (ledger : Ledger) (v : ℕ) (state : State) (txn : TxnId) → IsAt ledger v state → MayCall ledger v (decide txn) → FollowsCall ledger v state (decide txn)
+decide_follows ledger v state txn at may = record {
+  enabled = (may, tt);
+  after = at_log ledger v (log_with (ledger.logs v) (Decide txn)) (after_decide state txn) (calls_keep_replica (ledger.logs v) state (decide txn) at tt);
 }
 
 end_follows : (ledger : Ledger) (v : ℕ) (state : State) (txn : TxnId) (commit : Bool) → IsAt ledger v state → MayCall ledger v (end txn commit) → FollowsCall ledger v state (end txn commit)
@@ -160,6 +166,7 @@ pub calls_are_steps : CallsAreSteps
 calls_are_steps ledger v state (ask_op txn place op) at (here, may) =
     subst (λ u. IsAt ledger u state → MayWork ledger u txn → FollowsCall ledger u state (ask_op txn place op)) here (ask_follows ledger state txn place op) at may
 calls_are_steps ledger v state (prepare txn) at may = prepare_follows ledger v state txn at may
+calls_are_steps ledger v state (decide txn) at may = decide_follows ledger v state txn at may
 calls_are_steps ledger v state (undo_one txn) at may =
     let follows = undone_follows ledger v state txn (rest_to_undo state.log txn) refl at may (calls_keep_replica (ledger.logs v) state (undo_one txn) at tt) in
     record { enabled = follows.0; after = follows.1 }

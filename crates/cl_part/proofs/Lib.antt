@@ -1,3 +1,4 @@
+pub mod Aborting
 pub mod Ends
 pub mod Following
 pub mod Operating

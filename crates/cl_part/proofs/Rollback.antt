@@ -18,7 +18,7 @@ use Rattle.cl_part.specs.State.{State, next_entry, after_record}
 use Rattle.cl_part.proofs.Undoing.{after_undo-first}
 
 -- the log after an undo step
-undone_log : (state : State) (txn : TxnId) (first : LogEntry) (others : List LogEntry) → rest_to_undo state.log txn ≡ first ∷ others →
+pub undone_log : (state : State) (txn : TxnId) (first : LogEntry) (others : List LogEntry) → rest_to_undo state.log txn ≡ first ∷ others →
     (after_undo state txn).log ≡ state.log ++ next_entry state (undo_now state first) ∷ []
 unfolding after_record
 undone_log state txn first others rest = ap (λ (s : State). s.log) (after_undo-first state txn first others rest)

@@ -32,7 +32,7 @@ use Rattle.cl_locks.proofs.Granting.{mode_held-none, mode_held-at_place, mode_he
 use Rattle.cl_order.specs.Steps.{log_with, log_with_optional}
 use Rattle.cl_order.proofs.Records.{Fits, Fitting, record_fits}
 use Rattle.cl_store.specs.Store.{stored as stored_in}
-use Rattle.cl_part.specs.Calls.{Call, ask_op, prepare, undo_one, end, refusing, record_left, unless_refused, after_op, after_prepare, after_end, after_undo, place_of, undo_now, first_undone, record_of_call, after_call}
+use Rattle.cl_part.specs.Calls.{Call, ask_op, prepare, decide, undo_one, end, refusing, record_left, unless_refused, after_op, after_prepare, after_decide, after_end, after_undo, place_of, undo_now, first_undone, record_of_call, after_call}
 use Rattle.cl_part.specs.Sound.{IsReplicaOf, RecordsKeepReplica, IsSound, ReplicaIsBelowNext, CallsKeepReplica, CallsKeepSound}
 use Rattle.cl_part.specs.State.{State, new_state, next_entry, grants_with, after_record, after_optional}
 use Rattle.cl_part.proofs.Undoing.{takes_lock-undo_of}
@@ -222,9 +222,10 @@ undone_keeps full state txn (first ∷ others) rest replica =
 -- ---- each call
 
 pub calls_keep_replica : CallsKeepReplica
-unfolding after_op after_prepare after_undo after_end
+unfolding after_op after_prepare after_decide after_undo after_end
 calls_keep_replica full state (ask_op txn place op) replica running = asked_keeps full state txn place op (refusing state txn place op) replica running
 calls_keep_replica full state (prepare txn) replica any = IsReplicaOf-mark full state (Prepared txn) replica refl (λ number. refl)
+calls_keep_replica full state (decide txn) replica any = IsReplicaOf-mark full state (Decide txn) replica refl (λ number. refl)
 calls_keep_replica full state (undo_one txn) replica any = undone_keeps full state txn (rest_to_undo state.log txn) refl replica
 calls_keep_replica full state (end txn commit) replica any = IsReplicaOf-mark full state (End txn commit) replica refl (λ number. refl)
 
@@ -235,9 +236,10 @@ appended_optional state None next = refl
 appended_optional state (Some content) next = ap (λ n. state.log ++ record { number = n; content = content } ∷ []) next
 
 pub after_call-record : (state : State) (call : Call) → after_call state call ≡ after_optional state (record_of_call state call)
-unfolding after_op after_prepare after_undo after_end
+unfolding after_op after_prepare after_decide after_undo after_end
 after_call-record state (ask_op txn place op) = refl
 after_call-record state (prepare txn) = refl
+after_call-record state (decide txn) = refl
 after_call-record state (undo_one txn) = refl
 after_call-record state (end txn commit) = refl
 

@@ -8,7 +8,7 @@ use Rattle.cl_types.specs.declared.operations.TxnId.{TxnId}
 use Rattle.cl_types.specs.Places.{Place}
 use Rattle.cl_types.specs.Plain.{plain_reply}
 use Rattle.cl_log.specs.declared.records.LogRec.{LogRec}
-use Rattle.cl_log.specs.declared.records.LogRec.TheVariants.{Set, Add, Prepared, End}
+use Rattle.cl_log.specs.declared.records.LogRec.TheVariants.{Set, Add, Prepared, End, Decide}
 use Rattle.cl_log.specs.LogEntry.{LogEntry}
 use Rattle.cl_log.specs.Rest.{rest_to_undo, undo_of}
 use Rattle.cl_locks.specs.Grants.{first_conflict, mode_held}
@@ -43,11 +43,15 @@ unless_refused (Some holder) content = None
 unfoldable pub after_op : State → TxnId → Place → Op → State
 after_op state txn place op = after_optional state (unless_refused (refusing state txn place op) (record_left state txn place op))
 
--- ---- the vote, and the end
+-- ---- the vote, the decision, and the end
 
 -- a vote appends a Prepared
 unfoldable pub after_prepare : State → TxnId → State
 after_prepare state txn = after_record state (Prepared txn)
+
+-- a decision appends a Decide
+unfoldable pub after_decide : State → TxnId → State
+after_decide state txn = after_record state (Decide txn)
 
 -- an end appends an End, which frees the locks of its transaction
 unfoldable pub after_end : State → TxnId → Bool → State
@@ -83,12 +87,26 @@ is_any (entry ∷ entries) = true
 unfoldable pub has_rest : List LogEntry → TxnId → Bool
 has_rest log txn = is_any (rest_to_undo log txn)
 
+-- the state after as many undo steps as these entries
+abbrev pub undo_each : State → TxnId → List LogEntry → State
+undo_each state txn [] = state
+undo_each state txn (entry ∷ rest) = undo_each (after_undo state txn) txn rest
+
+-- the state after the rollback of a transaction
+unfoldable pub after_rollback : State → TxnId → State
+after_rollback state txn = undo_each state txn (rest_to_undo state.log txn)
+
+-- the state after its rollback and its End
+unfoldable pub after_abort : State → TxnId → State
+after_abort state txn = after_end (after_rollback state txn) txn false
+
 -- ---- any call
 
 -- the calls of a participant
 pub data Call : Type 0 where
   ask_op : TxnId → Place → Op → Call
   prepare : TxnId → Call
+  decide : TxnId → Call
   undo_one : TxnId → Call
   end : TxnId → Bool → Call
 
@@ -96,6 +114,7 @@ pub data Call : Type 0 where
 abbrev pub record_of_call : State → Call → Option LogRec
 record_of_call state (ask_op txn place op) = unless_refused (refusing state txn place op) (record_left state txn place op)
 record_of_call state (prepare txn) = Some (Prepared txn)
+record_of_call state (decide txn) = Some (Decide txn)
 record_of_call state (undo_one txn) = first_undone state (rest_to_undo state.log txn)
 record_of_call state (end txn commit) = Some (End txn commit)
 
@@ -103,5 +122,6 @@ record_of_call state (end txn commit) = Some (End txn commit)
 abbrev pub after_call : State → Call → State
 after_call state (ask_op txn place op) = after_op state txn place op
 after_call state (prepare txn) = after_prepare state txn
+after_call state (decide txn) = after_decide state txn
 after_call state (undo_one txn) = after_undo state txn
 after_call state (end txn commit) = after_end state txn commit

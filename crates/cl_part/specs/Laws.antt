@@ -8,8 +8,8 @@ use Rattle.cl_log.specs.LogEntry.{LogEntry}
 use Rattle.cl_log.specs.Open.{has_ended, is_among}
 use Rattle.cl_log.specs.Rest.{rest_to_undo}
 use Rattle.cl_order.specs.Ledger.{Ledger, stored_at, IsOrdered}
-use Rattle.cl_order.specs.Steps.{Step, carry_out, prepare as append_prepared, join, undo, finish, after_steps, AreEnabled, MayFinish, MayJoin, new_ledger}
-use Rattle.cl_part.specs.Calls.{Call, ask_op, prepare, undo_one, end, refusing, answer_by, answer_to, undo_now, after_call}
+use Rattle.cl_order.specs.Steps.{Step, carry_out, prepare as append_prepared, decide as append_decide, join, undo, finish, after_steps, AreEnabled, MayFinish, MayJoin, new_ledger}
+use Rattle.cl_part.specs.Calls.{Call, ask_op, prepare, decide, undo_one, end, refusing, answer_by, answer_to, undo_now, after_call}
 use Rattle.cl_part.specs.Sound.{IsReplicaOf}
 use Rattle.cl_part.specs.State.{State, new_state}
 
@@ -27,6 +27,7 @@ step_undoing v state (first ∷ others) = undo v (undo_now state first) ∷ []
 abbrev pub steps_of : ℕ → State → Call → List Step
 steps_of v state (ask_op txn place op) = step_asked (refusing state txn place op) (carry_out txn place op)
 steps_of v state (prepare txn) = append_prepared v txn ∷ []
+steps_of v state (decide txn) = append_decide v txn ∷ []
 steps_of v state (undo_one txn) = step_undoing v state (rest_to_undo state.log txn)
 steps_of v state (end txn commit) = finish v txn commit ∷ []
 
@@ -39,6 +40,7 @@ pub record MayWork (ledger : Ledger) (v : ℕ) (txn : TxnId) : Type 0 where
 abbrev pub MayCall : Ledger → ℕ → Call → Type 0
 MayCall ledger v (ask_op txn place op) = (ledger.on place ≡ v) × MayWork ledger v txn
 MayCall ledger v (prepare txn) = has_ended (ledger.logs v) txn ≡ false
+MayCall ledger v (decide txn) = Unit {0}
 MayCall ledger v (undo_one txn) = MayWork ledger v txn
 MayCall ledger v (end txn commit) = MayFinish ledger v txn commit
 

@@ -1,5 +1,5 @@
 //! The participant itself.
-ghost use Rattle.std.specs.Prelude.{◌≡◌, ◌≢◌, ◌+◌, ◌≤◌, ◌<◌, true, false, [], Some, None, Err, IfOk, OnOk, OnErr};
+ghost use Rattle.std.specs.Prelude.{◌≡◌, ◌≢◌, ◌+◌, ◌≤◌, ◌<◌, true, false, [], length, Some, None, Err, IfOk, OnOk, OnErr};
 ghost use Rattle.cl_types.specs.declared.operations.TxnId.{TxnId};
 ghost use Rattle.cl_types.specs.Places.{Place};
 ghost use Rattle.cl_types.specs.Plain.{plain_reply};
@@ -11,7 +11,7 @@ ghost use Rattle.cl_locks.specs.Grants.{first_conflict};
 ghost use Rattle.cl_locks.specs.Table.{grants_at, held};
 ghost use Rattle.cl_order.specs.Operations.{mode_of, record_of};
 ghost use Rattle.cl_store.specs.Store.{stored, room};
-ghost use Rattle.cl_part.specs.Calls.{answer_to, after_op, after_prepare, after_end, after_undo, has_rest, place_of};
+ghost use Rattle.cl_part.specs.Calls.{answer_to, after_op, after_prepare, after_decide, after_end, after_undo, after_abort, has_rest, place_of};
 ghost use Rattle.cl_part.specs.Recorded.{IsSame, HasRecorded, HasRecordedOptional, HasWritten, HasAppendedOptional, touched};
 ghost use Rattle.cl_part.specs.State.{State, IsStateOf, IsBelowNext, new_state};
 
@@ -20,7 +20,7 @@ use cl_locks::{Granted, LockRefused, Locks};
 use cl_log::{LOG_NUMBER_MAX, Log, LogRec, undo_of};
 use cl_redo::{reserve, take};
 use cl_store::Store;
-use cl_types::{Answer, Key, Mode, NoMemory, Op, Reply, TableName, TxnId, Value, apply_op};
+use cl_types::{Answer, Key, Mode, NoMemory, Op, Refused, Reply, TableName, TxnId, Value, apply_op};
 use std::alloc::Global;
 
 /// What a primary keeps of the transactions at a virtual node: the records, the log and the locks.
@@ -202,6 +202,23 @@ impl Part {
         self.record(LogRec::Prepared(txn))
     }
 
+    /// Logs that the transaction is decided: appends its Decide, and gives the number of that record.
+    ///
+    /// The primary of the session's virtual node calls it once every participant has voted.
+    pub fn decide(&mut self, txn: TxnId) -> Result<u64, NoMemory>
+        requires numbers { next_number self.old.log ≤ LOG_NUMBER_MAX }
+        requires below { IsBelowNext self.old }
+        ensures number { IfOk result (λ number. number ≡ next_number self.old.log) }
+        ensures state { (before : State) → IsStateOf self.old before
+            → OnOk result (IsStateOf self.new (after_decide before txn)) }
+        ensures err { (before : State) → IsStateOf self.old before
+            → OnErr result (IsStateOf self.new before) }
+        ensures below { IsBelowNext self.new }
+        ensures next { next_number self.new.log ≤ next_number self.old.log + 1 }
+    {
+        self.record(LogRec::Decide(txn))
+    }
+
     /// Ends the transaction, committed or not: appends its End, frees its locks, and gives the
     /// number of that record. A transaction that is not committed has nothing left to undo.
     pub fn end(&mut self, txn: TxnId, commit: bool) -> Result<u64, NoMemory>
@@ -247,6 +264,36 @@ impl Part {
         let undo = undo_of(self.alloc, content, number, before)?;
         self.record(undo)?;
         Ok(true)
+    }
+
+    /// Undoes what is left of the transaction, last write first, appends its End, and frees its
+    /// locks. Gives the number of the End.
+    ///
+    /// A primary calls it once for a transaction that is not committed. It costs an undo step for
+    /// each write that is left. After an error a rollback may have begun, and the participant may
+    /// only be dropped.
+    pub fn abort(&mut self, txn: TxnId) -> Result<u64, Refused>
+        requires { IsBelowNext self.old }
+        ensures number { IfOk result (λ number. number
+            ≡ next_number self.old.log + length (rest_to_undo (entries self.old.log) txn)) }
+        ensures state { (before : State) → IsStateOf self.old before
+            → OnOk result (IsStateOf self.new (after_abort before txn)) }
+        ensures fits { OnOk result
+            (next_number self.old.log + length (rest_to_undo (entries self.old.log) txn)
+            ≤ LOG_NUMBER_MAX) }
+        ensures spent { result ≡ Err Refused.Spent
+            → LOG_NUMBER_MAX
+            < next_number self.old.log + length (rest_to_undo (entries self.old.log) txn) }
+        ensures below { IsBelowNext self.new }
+        ensures next { next_number self.new.log
+            ≤ next_number self.old.log + length (rest_to_undo (entries self.old.log) txn) + 1 }
+    {
+        while self.log.last() < LOG_NUMBER_MAX {
+            if !self.undo_one(txn)? {
+                return Ok(self.end(txn, false)?);
+            }
+        }
+        Err(Refused::Spent)
     }
 }
 

@@ -19,6 +19,5 @@ pub mod Conflicts
 pub mod RealTime
 pub mod Guarantee
 pub mod Served
-pub mod Undoing
 pub mod Working
 pub mod Serving

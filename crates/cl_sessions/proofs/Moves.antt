@@ -19,13 +19,13 @@ use Rattle.cl_order.proofs.Records.{Fits, Fitting, record_fits}
 use Rattle.cl_order.specs.Ledger.{Ledger, IsOrdered, IsWhole, IsWholeOn}
 use Rattle.cl_order.specs.Steps.{carry_out, prepare as append_prepared, join, undo, finish, after_step, after_steps, AreEnabled, MayJoin, done_with, operation_now}
 use Rattle.cl_locks.specs.Grants.{mode_held}
-use Rattle.cl_part.specs.Calls.{ask_op, prepare, undo_one, end, refusing, record_left, unless_refused, after_op, after_prepare, after_end, after_undo, undo_now}
+use Rattle.cl_part.specs.Calls.{ask_op, prepare, undo_one, end, refusing, record_left, unless_refused, after_op, after_prepare, after_end, after_undo, undo_each, after_rollback, after_abort, undo_now}
 use Rattle.cl_part.specs.Laws.{MayWork, step_asked, step_undoing}
 use Rattle.cl_part.specs.State.{State, after_record, after_optional}
 use Rattle.cl_part.proofs.Rollback.{undo_takes_first}
 use Rattle.cl_part.proofs.Undoing.{after_undo-first}
 use Rattle.cl_sessions.specs.Serving.{KeepsWholeLog, count_writes}
-use Rattle.cl_sessions.specs.Turn.{undo_each, after_rollback, after_abort, after_commit}
+use Rattle.cl_sessions.specs.Turn.{after_commit}
 use Rattle.cl_sessions.proofs.Logs.{ended_unended, ended_end, next_recorded, writes_recorded, writes_unwritten}
 use Rattle.cl_sessions.proofs.WholeLog.{calls_keep_whole_log}
 

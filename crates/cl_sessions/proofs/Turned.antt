@@ -20,7 +20,7 @@ use Rattle.cl_log.specs.Store.{store_of_log}
 use Rattle.cl_log.specs.Rest.{rest_to_undo}
 use Rattle.cl_order.specs.Ledger.{Ledger, IsOrdered, IsWholeOn, stored_at}
 use Rattle.cl_order.specs.Steps.{done_with, operation_now}
-use Rattle.cl_part.specs.Calls.{refusing, after_op}
+use Rattle.cl_part.specs.Calls.{refusing, after_op, after_abort}
 use Rattle.cl_part.specs.Laws.{MayWork}
 use Rattle.cl_part.specs.State.{State}
 use Rattle.cl_serial.specs.Exchanges.{Exchange}
@@ -28,7 +28,7 @@ use Rattle.cl_serial.specs.PlainMap.{Operation, operations, operation_in}
 use Rattle.cl_serial.specs.Transactions.{Transaction}
 use Rattle.cl_serial.proofs.Replayed.{operations-push}
 use Rattle.cl_sessions.specs.Serving.{KeepsWholeLog, is_done_outcome, done_among, count_in, count_writes}
-use Rattle.cl_sessions.specs.Turn.{turn_outcome, turn_state, work_outcome, state_worked, after_abort, after_commit}
+use Rattle.cl_sessions.specs.Turn.{turn_outcome, turn_state, work_outcome, state_worked, after_commit}
 use Rattle.cl_sessions.proofs.Causes.{joined}
 use Rattle.cl_sessions.proofs.Grown.{added, only_if, ends_it}
 use Rattle.cl_sessions.proofs.Logs.{rest_within}

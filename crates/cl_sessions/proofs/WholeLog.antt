@@ -5,7 +5,7 @@ use Rattle.cl_log.specs.LogEntry.{LogEntry}
 use Rattle.cl_log.specs.Open.{has_ended}
 use Rattle.cl_order.specs.Ledger.{Ledger}
 use Rattle.cl_order.specs.Steps.{after_steps, AreEnabled}
-use Rattle.cl_part.specs.Calls.{Call, ask_op, prepare, undo_one, end, after_call}
+use Rattle.cl_part.specs.Calls.{Call, ask_op, prepare, decide, undo_one, end, after_call}
 use Rattle.cl_part.specs.Laws.{IsAt, MayCall, steps_of}
 use Rattle.cl_part.specs.Sound.{IsReplicaOf, IsSound, IsUnended}
 use Rattle.cl_part.specs.State.{State}
@@ -36,6 +36,7 @@ whole_log full state replica sound =
 unended_call : (ledger : Ledger) (v : ℕ) (state : State) (call : Call) → ledger.logs v ≡ state.log → MayCall ledger v call → IsUnended state.log call
 unended_call ledger v state (ask_op txn place op) same may = ap (λ (log : List LogEntry). has_ended log txn) (sym same) ∙ may.1.unended
 unended_call ledger v state (prepare txn) same may = tt
+unended_call ledger v state (decide txn) same may = tt
 unended_call ledger v state (undo_one txn) same may = tt
 unended_call ledger v state (end txn commit) same may = tt
 

@@ -11,10 +11,10 @@ use Rattle.cl_types.specs.declared.operations.TxnId.{TxnId}
 use Rattle.cl_types.specs.Places.{Place}
 use Rattle.cl_types.specs.Plain.{plain_reply}
 use Rattle.cl_part.specs.declared.part.Part.{Part}
-use Rattle.cl_part.specs.Calls.{refusing, answer_by, answer_to, record_left, unless_refused, after_op}
+use Rattle.cl_part.specs.Calls.{refusing, answer_by, answer_to, record_left, unless_refused, after_op, after_abort}
 use Rattle.cl_part.specs.State.{State, IsStateOf, after_optional}
 use Rattle.cl_sessions.specs.Server.{CanAbort}
-use Rattle.cl_sessions.specs.Turn.{work_outcome, operations_worked, state_worked, after_abort}
+use Rattle.cl_sessions.specs.Turn.{work_outcome, operations_worked, state_worked}
 
 by_done : (refused : Option TxnId) (plain reply : Reply) → answer_by refused plain ≡ Granted reply → (refused ≡ None) × (plain ≡ reply)
 by_done None plain reply h = (refl, cc)

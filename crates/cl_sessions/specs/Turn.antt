@@ -11,24 +11,9 @@ use Rattle.cl_types.specs.declared.answers.Outcome.TheVariants.{Done, Begun, Com
 use Rattle.cl_types.specs.declared.answers.Reply.{Reply}
 use Rattle.cl_types.specs.Places.{Place}
 use Rattle.cl_types.specs.Plain.{plain_reply}
-use Rattle.cl_log.specs.LogEntry.{LogEntry}
-use Rattle.cl_log.specs.Rest.{rest_to_undo}
 use Rattle.cl_part.specs.State.{State}
-use Rattle.cl_part.specs.Calls.{refusing, after_op, after_prepare, after_end, after_undo}
+use Rattle.cl_part.specs.Calls.{refusing, after_op, after_prepare, after_end, after_abort}
 use Rattle.cl_sessions.specs.declared.counts.Counts.{Counts}
-
--- the state after as many undo steps as these entries
-abbrev pub undo_each : State → TxnId → List LogEntry → State
-undo_each state txn [] = state
-undo_each state txn (entry ∷ rest) = undo_each (after_undo state txn) txn rest
-
--- the state after the rollback of a transaction
-unfoldable pub after_rollback : State → TxnId → State
-after_rollback state txn = undo_each state txn (rest_to_undo state.log txn)
-
--- the state after its rollback and its End
-unfoldable pub after_abort : State → TxnId → State
-after_abort state txn = after_end (after_rollback state txn) txn false
 
 -- the state after its vote and its End
 unfoldable pub after_commit : State → TxnId → State

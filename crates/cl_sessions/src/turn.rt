@@ -1,13 +1,16 @@
 //! One turn of a session at its participant.
 ghost use Rattle.std.specs.Prelude.{◌≡◌, ◌≤◌, IfOk, OnOk};
+ghost use Rattle.cl_part.specs.Calls.{after_abort};
 ghost use Rattle.cl_part.specs.Sound.{IsSound};
 ghost use Rattle.cl_part.specs.State.{State, IsStateOf};
 ghost use Rattle.cl_types.specs.declared.operations.Command.{Command as Asked};
 ghost use Rattle.cl_sessions.specs.Server.{CanAbort};
-ghost use Rattle.cl_sessions.specs.Turn.{after_abort, after_commit, outcome_inside, state_inside, operations_inside};
+ghost use Rattle.cl_sessions.specs.Turn.{after_commit, outcome_inside, state_inside, operations_inside};
 
 use cl_part::{Answer, Part};
-use cl_types::{AbortCause, Command, Key, NoMemory, OPERATIONS_MAX, Op, Outcome, TableName, TxnId};
+use cl_types::{
+    AbortCause, Command, Key, NoMemory, OPERATIONS_MAX, Op, Outcome, Refused, TableName, TxnId,
+};
 
 /// What a turn gives: the outcome, and the number of operations of the session's transaction, if it
 /// is still in one.
@@ -21,13 +24,11 @@ fn abort(part: &mut Part, txn: TxnId) -> Result<(), NoMemory>
     requires { CanAbort part.old txn }
     ensures { (before : State) → IsStateOf part.old before → IsSound before → OnOk result (IsStateOf part.new (after_abort before txn)) }
 {
-    for _step in 0..=OPERATIONS_MAX {
-        if !part.undo_one(txn)? {
-            part.end(txn, false)?;
-            return Ok(());
-        }
+    match part.abort(txn) {
+        Ok(_) => Ok(()),
+        Err(Refused::NoMemory) => Err(NoMemory),
+        Err(Refused::Spent) => unreachable!(),
     }
-    unreachable!()
 }
 
 // Votes for the transaction, and ends it.
