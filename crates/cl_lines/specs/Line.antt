@@ -85,7 +85,7 @@ in_session (Err fault) (Some command) = Err fault
 in_session (Ok session) (Some (Err fault)) = Err fault
 in_session (Ok session) (Some (Ok command)) = Ok (Client session command)
 
--- the line of QUIET and these words after it: there may be none
+-- the line of QUIET with these words after it, where no word may stand
 abbrev pub quiet_line : List (List ℕ) → Result Line LineFault
 quiet_line [] = Ok (Operator Quiet)
 quiet_line (word ∷ others) = Err Words
