@@ -13,5 +13,5 @@ pub record Explains (transcript : List TranscriptEntry) (history : List TxnId) :
   pub open_replies : OpenRepliesAgree transcript history
   -- each cause of an abort is true
   pub causes : TrueCauses transcript
-  -- every line of a client and every line with a fault is answered
+  -- every client's line and every line with a fault is answered
   pub answered : EveryLineAnswered transcript

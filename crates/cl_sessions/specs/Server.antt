@@ -48,6 +48,16 @@ abbrev pub counts_of : List TranscriptEntry → ℕ → Counts
 counts_of transcript session = let state = session_state session transcript in
     record { begun = length state.ended + length (option_to_list state.current); operations = count_in state.current }
 
+-- the entry of what is printed for a line, if anything is
+abbrev pub printed : Option Out → List TranscriptEntry
+printed None = []
+printed (Some out) = written out ∷ []
+
+-- what is printed for a line, by the order that it gives: one line, but nothing for an operator's line
+abbrev pub PrintsFor : Option Order → List TranscriptEntry → Type 0
+PrintsFor None entries = (out : Out) × (entries ≡ written out ∷ [])
+PrintsFor (Some order) entries = entries ≡ []
+
 -- the server is that of this transcript, whether it has it or not yet
 pub record IsServingAt (server : Server) (transcript : List TranscriptEntry) : Type 0 where
   pub state : State
@@ -59,16 +69,6 @@ pub record IsServingAt (server : Server) (transcript : List TranscriptEntry) : T
 -- all that the server has of its lines so far belongs together
 abbrev pub IsServing : Server → Type 0
 IsServing server = IsServingAt server (transcript_of server.transcript)
-
--- the entry of what is printed for a line, if anything is
-abbrev pub printed : Option Out → List TranscriptEntry
-printed None = []
-printed (Some out) = written out ∷ []
-
--- what is printed for a line, by the order that it gives: one line, but nothing for an operator's line
-abbrev pub PrintsFor : Option Order → List TranscriptEntry → Type 0
-PrintsFor None entries = (out : Out) × (entries ≡ written out ∷ [])
-PrintsFor (Some order) entries = entries ≡ []
 
 -- the same, but that the last line and what is printed for it are not in the transcript yet
 abbrev pub IsServingWith : Server → ℕ → List ℕ → Option Out → Type 0
