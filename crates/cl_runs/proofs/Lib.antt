@@ -1,0 +1,12 @@
+pub mod Updates
+pub mod Calls
+pub mod Giving
+pub mod Taking
+pub mod Linked
+pub mod Counting
+pub mod Events
+pub mod QueueSteps
+pub mod QueueEvents
+pub mod Quiet
+pub mod Runs
+pub mod Examples
