@@ -83,7 +83,7 @@ impl Log {
     }
 
     // The transaction whose last write that is not undone is the one that a record names, with the
-    // last one before that. It reads the records of that transaction from the one to the other.
+    // last one before that. It reads the records of that transaction between the two.
     fn uncovered(&self, content: &LogRec) -> Option<(TxnId, Option<u64>)>
         ensures left { (txn : TxnId) → left_past (entries self.now) content.now txn
             ≡ left_after result (first_number (rest_to_undo (entries self.now) txn)) txn }
@@ -99,8 +99,9 @@ impl Log {
 
     /// Appends a record and gives its number, which is at most `LOG_NUMBER_MAX`. It takes no memory.
     ///
-    /// It costs two look-ups. A compensation reads also the records of its transaction, from the
-    /// write that it undoes back to the one that is to be undone next.
+    /// It looks up the transaction of the record. A compensation reads also the records of the
+    /// transaction whose write it names, from that write back to the one to be undone next. Where a
+    /// compensation has named this number or a greater one, as in no lawful log, it reads all records.
     pub fn append(&mut self, content: LogRec) -> u64
         requires room { 1 ≤ room self.old }
         requires numbers { next_number self.old ≤ LOG_NUMBER_MAX }

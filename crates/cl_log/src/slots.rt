@@ -144,7 +144,8 @@ impl SlotList {
         &self.slots[(number - self.first) as usize]
     }
 
-    /// Whether a compensation names the number. Where one names it or a greater one, it reads all records.
+    /// Whether a compensation names the number. It reads all records where one names this number or
+    /// a greater one, and none otherwise.
     pub(crate) fn is_named(&self, number: u64) -> bool
         ensures { result ≡ is_undone (entries_in self.now) number }
     {
@@ -170,7 +171,7 @@ impl SlotList {
     }
 
     /// The number of the last write before this record, and of its transaction, that is not undone.
-    /// It reads the records of that transaction back to it.
+    /// It reads the records of that transaction between the two.
     pub(crate) fn left_before(&self, number: u64) -> Option<u64>
         requires kept { (self.now.first ≤ number) × (number < next_in self.now) }
         ensures { (before : List LogEntry) (entry : LogEntry) (after : List LogEntry)

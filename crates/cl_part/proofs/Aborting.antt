@@ -54,14 +54,16 @@ module _ (old new : Part) (before : State) (txn : TxnId) (h : IsRollingBack old 
       let number : (after_undo h.state txn).next ≡ h.state.next + 1 = next_recorded h.state txn first others is in
       let now : IsStateOf new (after_undo h.state txn) = step h.state h.is_state in
       let numbers_old : next_number old.log ≡ h.state.next = h.is_state.next in
-      let numbers_new : next_number new.log ≡ (after_undo h.state txn).next = now.next in
-      (record {
-        state = after_undo h.state txn;
-        is_state = now;
-        same = ap (undo_each (after_undo h.state txn) txn) next ∙ sym (ap (undo_each h.state txn) is) ∙ h.same;
-        numbers = (let n = h.numbers in let a : length (rest_to_undo h.state.log txn) ≡ length others + 1 = ap length is ∙ omega arith in
-            let b : length (rest_to_undo (after_undo h.state txn).log txn) ≡ length others = ap length next in omega (arith, n, number, a, b));
-      }, omega (arith, number, numbers_old, numbers_new))
+      let numbers_new : next_number new.log ≡ (after_undo h.state txn).next = now.next in (
+        record {
+          state = after_undo h.state txn;
+          is_state = now;
+          same = ap (undo_each (after_undo h.state txn) txn) next ∙ sym (ap (undo_each h.state txn) is) ∙ h.same;
+          numbers = (let n = h.numbers in let a : length (rest_to_undo h.state.log txn) ≡ length others + 1 = ap length is ∙ omega arith in
+              let b : length (rest_to_undo (after_undo h.state txn).log txn) ≡ length others = ap length next in omega (arith, n, number, a, b));
+        },
+        omega (arith, number, numbers_old, numbers_new),
+      )
 
   pub rolling_more : (undone : Bool) → undone ≡ has_rest (entries old.log) txn → undone ≡ true → IsRollingBack new before txn × (next_number new.log ≡ next_number old.log + 1)
   rolling_more undone told is = one_more (rest_to_undo h.state.log txn) refl (sym rest_told ∙ sym told ∙ is)

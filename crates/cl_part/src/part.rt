@@ -20,7 +20,9 @@ use cl_locks::{Granted, LockRefused, Locks};
 use cl_log::{LOG_NUMBER_MAX, Log, LogRec, undo_of};
 use cl_redo::{reserve, take};
 use cl_store::Store;
-use cl_types::{Answer, Key, Mode, NoMemory, Op, Refused, Reply, TableName, TxnId, Value, apply_op};
+use cl_types::{
+    Answer, Key, Mode, NoMemory, Op, Refused, Reply, TableName, TxnId, Value, apply_op,
+};
 use std::alloc::Global;
 
 /// What a primary keeps of the transactions at a virtual node: the records, the log and the locks.

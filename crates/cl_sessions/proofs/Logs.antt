@@ -9,7 +9,7 @@ use Rattle.cl_types.proofs.Transactions.{same_txn-symmetric}
 use Rattle.cl_log.specs.declared.records.LogRec.{LogRec}
 use Rattle.cl_log.specs.declared.records.LogRec.TheVariants.{End}
 use Rattle.cl_log.specs.LogEntry.{LogEntry}
-use Rattle.cl_log.specs.Kind.{txn_of, is_of, is_end, can_be_undone}
+use Rattle.cl_log.specs.Kind.{is_of, is_end, can_be_undone}
 use Rattle.cl_log.specs.Open.{has_ended}
 use Rattle.cl_log.specs.Rest.{is_left_of, is_undone, rest_to_undo}
 use Rattle.cl_log.proofs.Open.{has_ended_push}
