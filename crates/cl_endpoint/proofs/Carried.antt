@@ -1,18 +1,18 @@
 -- What emitted packets carry.
-use Rattle.std.proofs.Common.{◌≡◌, ◌≢◌, ◌⊎◌, ℕ, ◌+◌, ◌-◌, ◌^◌, ◌<◌, ◌≤◌, List, [], ◌∷◌, length, Option, Some, None, get_or, slice_get, refl, ap, sym, ◌∙◌, arith, subst, inl, inr, lit<}
+use Rattle.std.proofs.Common.{◌≡◌, ◌≢◌, ◌⊎◌, ℕ, ◌-◌, ◌^◌, ◌<◌, ◌≤◌, List, [], ◌∷◌, length, Some, None, refl, sym, ◌∙◌, arith, inl, inr}
 use Rattle.std.proofs.lemmas.Bool.Decides.{eqb_tells}
 use Rattle.std.proofs.lemmas.List.Elements.{All-nil, All-cons, All-weaker, All-get_or}
 use Rattle.std.proofs.lemmas.Option.{slice_get_within}
 use Rattle.std.specs.List.{All}
 use Rattle.cl_link.specs.declared.link.TheConstants.{NUMBER_MAX}
-use Rattle.cl_link.specs.LinkState.{LinkState, last_number, unacknowledged, due_of, after_sent, no_message}
+use Rattle.cl_link.specs.LinkState.{LinkState, unacknowledged, due_of, after_sent, no_message}
 use Rattle.cl_link.proofs.Indices.{All-slice_get}
 use Rattle.cl_link.proofs.LinkStates.{due_of-kept, accepted-after_sent, released-after_sent, unacknowledged-after_sent, last_number-unacknowledged}
 use Rattle.cl_wire.specs.Message.{Content, Message, Bare, kind_of}
 use Rattle.cl_wire.specs.Range.{IsContent, IsSeq, IsInRange}
-use Rattle.cl_endpoint.specs.Endpoint.{EndpointState, link_to, with_link, set_number}
-use Rattle.cl_endpoint.specs.Emission.{or_bare, message_to, packet_to, after_packet, emitted}
-use Rattle.cl_endpoint.specs.Laws.{IsInTurn, IsOwedToActor, IsKeptUnder, IsOf, EmittedIsKept, IsLinkInRange, IsEndpointInRange, EmittedIsInRange}
+use Rattle.cl_endpoint.specs.Endpoint.{EndpointState, link_to}
+use Rattle.cl_endpoint.specs.Emission.{or_bare, packet_to, after_packet, emitted}
+use Rattle.cl_endpoint.specs.Laws.{IsInTurn, IsKeptUnder, IsOf, EmittedIsKept, IsLinkInRange, IsEndpointInRange, EmittedIsInRange}
 use Rattle.cl_endpoint.proofs.Links.{link_to-with_link, link_to-with_other}
 use Rattle.cl_endpoint.proofs.Emissions.{links-after_packet}
 use Rattle.cl_endpoint.proofs.InTurn.{emission_is_in_turn}

@@ -1,19 +1,18 @@
 -- Emission, packet by packet and actor by actor.
-use Rattle.std.proofs.Common.{true, false, cond, nat_lt, ◌≡◌, ◌≢◌, ℕ, ◌+◌, ◌-◌, ◌<◌, ◌≤◌, List, [], ◌∷◌, ◌++◌, length, map, take, drop, Option, Some, None, is_some, refl, ap, sym, ◌∙◌, arith, append_assoc, add-zero, zero-add, add-one, zero, suc}
+use Rattle.std.proofs.Common.{true, false, ◌≡◌, ◌≢◌, ℕ, ◌+◌, ◌-◌, ◌<◌, ◌≤◌, List, [], ◌∷◌, ◌++◌, length, map, take, Option, Some, None, is_some, refl, ap, sym, ◌∙◌, arith, append_assoc, add-zero, zero-add, add-one, zero, suc}
 use Rattle.std.proofs.lemmas.List.{append-nil, length-append, take_all, length-take}
 use Rattle.std.proofs.lemmas.List.Sums.{fold-append}
 use Rattle.std.proofs.lemmas.List.Concat.{flat_map-append}
 use Rattle.std.proofs.lemmas.List.{take-map}
 use Rattle.std.proofs.Math.Seq.{take-append_seam}
-use Rattle.std.proofs.lemmas.Bool.{cases_eq}
 use Rattle.std.specs.List.{fold, flat_map, range_with_len}
 use Rattle.cl_link.specs.LinkState.{LinkState, due_of, after_sent}
 use Rattle.cl_link.proofs.LinkStates.{accepted-after_sent}
 use Rattle.cl_steps.specs.declared.packets.TheConstants.{PACKETS_MAX}
-use Rattle.cl_wire.specs.Message.{Content, Message, Bare}
+use Rattle.cl_wire.specs.Message.{Content, Message}
 use Rattle.cl_endpoint.specs.Endpoint.{EndpointState, link_to, with_link, set_number}
-use Rattle.cl_endpoint.specs.Emission.{due_in, message_to, due_to, all_due, or_bare, packet_to, after_packet, to_emit, emitted, after_emit}
-use Rattle.cl_endpoint.proofs.Links.{link_to-with_link, link_to-with_other, with_link-link_to, links-with_link}
+use Rattle.cl_endpoint.specs.Emission.{due_in, message_to, due_to, all_due, or_bare, packet_to, after_packet, owed_packets, to_emit, emitted, after_emit}
+use Rattle.cl_endpoint.proofs.Links.{link_to-with_link, link_to-with_other, links-with_link}
 use Rattle.cl_endpoint.proofs.DueMessages.{due_in-none, due_in-some}
 
 -- messages with these numbers and contents to an actor, with this acknowledgement
@@ -202,19 +201,15 @@ pub HasEmittedBelow-all : (start now : EndpointState) (p room : ℕ) (before aft
 unfolding all_due due_below
 HasEmittedBelow-all start now p room before after all emitted = rw (← all) ((emitted.packets, emitted.state))
 
--- the whole emission, where nothing is owed: from no packet on
-pub emission-none : (state mid now : EndpointState) (owed : Option ℕ) (count : ℕ) (before after : List Message) → owed ≡ None → mid ≡ state → before ≡ [] → count ≡ 0 →
+-- the whole emission: from no packet on, the packet that is owed, and then as many due messages as fit
+pub emission_whole : (state mid now : EndpointState) (owed : Option ℕ) (count : ℕ) (before after : List Message) →
+    before ≡ owed_packets state owed → count ≡ length before → mid ≡ fold after_packet state (owed_packets state owed) →
     after ≡ before ++ take (PACKETS_MAX - count) (all_due mid) → now ≡ fold after_packet mid (take (PACKETS_MAX - count) (all_due mid)) →
     (after ≡ emitted state owed) × (now ≡ after_emit state owed)
 unfolding emitted to_emit after_emit
-emission-none state mid now owed count before after owed_is mid_is before_is count_is packets state_is =
-    rw (owed_is, ← mid_is) (((rw (before_is, count_is) at packets), (rw count_is at state_is)))
-
--- the same where an acknowledgement is owed: from the packet to that actor on
-pub emission-some : (state mid now : EndpointState) (owed : Option ℕ) (peer count : ℕ) (before after : List Message) → owed ≡ Some peer → mid ≡ after_packet state (packet_to state peer) →
-    before ≡ packet_to state peer ∷ [] → count ≡ 1 →
-    after ≡ before ++ take (PACKETS_MAX - count) (all_due mid) → now ≡ fold after_packet mid (take (PACKETS_MAX - count) (all_due mid)) →
-    (after ≡ emitted state owed) × (now ≡ after_emit state owed)
-unfolding emitted to_emit after_emit
-emission-some state mid now owed peer count before after owed_is mid_is before_is count_is packets state_is =
-    rw owed_is (((rw (before_is, mid_is, count_is) at packets), (rw (mid_is, count_is) at state_is)))
+emission_whole state mid now None count before after before_is count_is mid_is packets state_is =
+    let none : count ≡ 0 = count_is ∙ ap length before_is in
+    ((rw (before_is, none, mid_is) at packets), (rw (none, mid_is) at state_is))
+emission_whole state mid now (Some peer) count before after before_is count_is mid_is packets state_is =
+    let one : count ≡ 1 = count_is ∙ ap length before_is in
+    ((rw (before_is, one, mid_is) at packets), (rw (one, mid_is) at state_is))

@@ -1,19 +1,19 @@
 -- Giving messages, link by link.
-use Rattle.std.proofs.Common.{◌≡◌, ◌≢◌, ℕ, suc, ◌+◌, ◌<◌, ◌≤◌, Bool, true, false, ◌||◌, nat_lt, cond, ◌==◌, eqb, List, [], ◌∷◌, ◌++◌, length, map, get_or, take, drop, refl, ap, sym, ◌∙◌, arith, rules, append_assoc, inl, inr, subst}
+use Rattle.std.proofs.Common.{◌≡◌, ◌≢◌, ℕ, suc, ◌+◌, ◌<◌, ◌≤◌, Bool, true, false, ◌||◌, nat_lt, cond, ◌==◌, List, [], ◌∷◌, ◌++◌, length, map, get_or, take, drop, refl, ap, sym, ◌∙◌, arith, rules, inl, inr}
 use Rattle.std.proofs.lemmas.Bool.{eq-eqb}
 use Rattle.std.proofs.lemmas.Bool.Decides.{eqb_tells}
-use Rattle.std.proofs.lemmas.List.{length_push, map-append, map-id, take-append-drop}
+use Rattle.std.proofs.lemmas.List.{map-append, map-id, take-append-drop}
 use Rattle.std.proofs.lemmas.List.Elements.{All-get_or, All-nil, All-push, All-weaker}
 use Rattle.std.proofs.lemmas.List.Folds.{list_any_none, list_any-append}
 use Rattle.std.proofs.lemmas.List.Sums.{fold-append, sum_by-append, sum_by-cons}
 use Rattle.std.proofs.Math.Seq.{drop-cons}
-use Rattle.std.specs.List.{fold, filter, All, count_by, list_any}
+use Rattle.std.specs.List.{fold, All, count_by, list_any}
 use Rattle.cl_link.specs.declared.link.TheConstants.{NUMBER_MAX}
 use Rattle.cl_link.specs.LinkState.{LinkState, last_number, after_send}
 use Rattle.cl_link.proofs.LinkStates.{last_number-after_send}
 use Rattle.cl_steps.specs.declared.steps.Outgoing.{Outgoing}
 use Rattle.cl_wire.specs.Message.{Content}
-use Rattle.cl_endpoint.specs.Endpoint.{EndpointState, link_to, with_link, after_give, after_gives, is_spent_to, is_spent_by}
+use Rattle.cl_endpoint.specs.Endpoint.{EndpointState, link_to, after_give, after_gives, is_spent_to, is_spent_by}
 use Rattle.cl_endpoint.specs.Laws.{contents_to, GivingIsSending}
 use Rattle.cl_endpoint.proofs.Links.{link_to-with_link, link_to-with_other, links-with_link}
 

@@ -1,18 +1,18 @@
 -- Emission packet by packet.
-use Rattle.std.proofs.Common.{◌≡◌, ◌≢◌, ◌⊎◌, ℕ, zero, suc, ◌+◌, ◌<◌, ◌≤◌, Bool, true, false, nat_lt, ◌&&◌, not, cond, eqb, is_some, List, [], ◌∷◌, ◌++◌, length, map, take, Option, Some, None, IfSome, refl, ap, sym, ◌∙◌, arith, rules, subst, inl, inr}
+use Rattle.std.proofs.Common.{◌≡◌, ◌≢◌, ℕ, zero, suc, ◌+◌, ◌<◌, ◌≤◌, true, false, nat_lt, ◌&&◌, cond, eqb, List, [], ◌∷◌, ◌++◌, length, map, take, Option, Some, None, refl, ap, sym, ◌∙◌, arith, rules, inl, inr}
 use Rattle.std.proofs.lemmas.Bool.{eq-eqb, ne_eqb}
 use Rattle.std.proofs.lemmas.Bool.Decides.{eqb_tells}
 use Rattle.std.proofs.lemmas.List.{length-take}
-use Rattle.std.specs.List.{fold, filter, flat_map, range_with_len}
+use Rattle.std.specs.List.{fold, flat_map, range_with_len}
 use Rattle.cl_link.specs.LinkState.{LinkState, due_of, after_sent}
 use Rattle.cl_link.proofs.LinkStates.{due_of-kept}
 use Rattle.cl_steps.specs.declared.packets.TheConstants.{PACKETS_MAX}
-use Rattle.cl_wire.specs.Message.{Content, Message, Bare}
+use Rattle.cl_wire.specs.Message.{Content, Message}
 use Rattle.cl_endpoint.specs.Endpoint.{EndpointState, link_to, with_link}
 use Rattle.cl_endpoint.specs.Emission.{due_to, all_due, or_bare, packet_to, after_packet, to_emit, emitted, after_emit}
 use Rattle.cl_endpoint.specs.Laws.{IsInTurn, IsOwedToActor, EmissionIsInTurn, EmittedAreFew, DueIsEmittedOrStays, EmissionMarksSent, messages_to}
 use Rattle.cl_endpoint.proofs.Links.{link_to-with_link, link_to-with_other, with_link-link_to}
-use Rattle.cl_endpoint.proofs.Emissions.{links-after_packet, links-after_packets, due_to-after_all, due_to-other, due_to-none, due_to-some, due_to-no, due_to-yes}
+use Rattle.cl_endpoint.proofs.Emissions.{links-after_packet, links-after_packets, due_to-after_all, due_to-other, due_to-none, due_to-some}
 
 -- the packet to an actor goes to that actor
 packet_to-to : (state : EndpointState) (peer : ℕ) → (packet_to state peer).to ≡ peer

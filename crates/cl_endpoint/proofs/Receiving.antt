@@ -1,12 +1,11 @@
 -- Which packets are accepted.
-use Rattle.std.proofs.Common.{◌≡◌, ◌↔◌, ℕ, ◌+◌, Bool, true, false, cond, eqb, refl, arith, rules}
-use Rattle.std.proofs.lemmas.Bool.Decides.{eqb_tells}
+use Rattle.std.proofs.Common.{◌≡◌, ℕ, ◌+◌, true, false, cond, eqb, refl, rules}
 use Rattle.cl_link.specs.LinkState.{taken_of}
 use Rattle.cl_link.specs.declared.link.Taken.{Taken}
 use Rattle.cl_link.specs.declared.link.Taken.TheVariants as takes
 use Rattle.cl_link.proofs.LinkStates.{number_of_taken, taken_of-next}
 use Rattle.cl_roster.specs.Roster.{has_stopped}
-use Rattle.cl_endpoint.specs.declared.received.Received.TheVariants.{Dropped, Bare, Now, Old, Gap}
+use Rattle.cl_endpoint.specs.declared.received.Received.TheVariants.{Dropped, Bare, Now}
 use Rattle.cl_endpoint.specs.Endpoint.{EndpointState, link_to, received, received_as}
 use Rattle.cl_endpoint.specs.Laws.{AcceptedIsNext}
 

@@ -1,5 +1,5 @@
 -- Which packets an endpoint emits, and what is left due.
-use Rattle.std.specs.Prelude.{ℕ, ◌+◌, if◌then◌else◌, List, [], ◌∷◌, length, map, take, Option, Some, None}
+use Rattle.std.specs.Prelude.{ℕ, ◌+◌, if◌then◌else◌, List, [], ◌∷◌, ◌++◌, length, map, take, Option, Some, None}
 use Rattle.std.specs.List.{fold, flat_map, range_with_len}
 use Rattle.cl_link.specs.declared.kept.Kept.{Kept}
 use Rattle.cl_link.specs.LinkState.{LinkState, due_of, after_sent}
@@ -48,10 +48,14 @@ packet_to state peer = message_to state peer (or_bare (due_of (link_to state pee
 unfoldable pub after_packet : EndpointState → Message → EndpointState
 after_packet state m = with_link state m.to (after_sent (link_to state m.to) m.seq)
 
--- what is to be emitted: first the packet to whom an acknowledgement is owed, then the other due messages
+-- the packet to the actor to whom an acknowledgement is owed, if there is one
+abbrev pub owed_packets : EndpointState → Option ℕ → List Message
+owed_packets state None = []
+owed_packets state (Some peer) = packet_to state peer ∷ []
+
+-- what is to be emitted: the packet that is owed, and then the other due messages
 unfoldable pub to_emit : EndpointState → Option ℕ → List Message
-to_emit state None = all_due state
-to_emit state (Some peer) = packet_to state peer ∷ all_due (after_packet state (packet_to state peer))
+to_emit state owed = owed_packets state owed ++ all_due (fold after_packet state (owed_packets state owed))
 
 -- what is emitted: as much of it as fits
 unfoldable pub emitted : EndpointState → Option ℕ → List Message

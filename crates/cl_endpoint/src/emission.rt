@@ -4,7 +4,7 @@ ghost use Rattle.std.specs.List.{fold};
 ghost use Rattle.cl_link.specs.LinkState.{due_of};
 ghost use Rattle.cl_wire.specs.Message.{content_of, message_of};
 ghost use Rattle.cl_endpoint.specs.Endpoint.{link_to};
-ghost use Rattle.cl_endpoint.specs.Emission.{all_due, due_to, or_bare, packet_to, after_packet, emitted, after_emit};
+ghost use Rattle.cl_endpoint.specs.Emission.{all_due, due_to, or_bare, owed_packets, packet_to, after_packet, emitted, after_emit};
 
 use crate::{ACTORS, Endpoint};
 use cl_steps::{PACKETS_MAX, Packets};
@@ -24,11 +24,27 @@ impl Endpoint {
         ensures after { OnOk result (self.new ≡ after_emit self.old owed) }
     {
         let mut packets = Packets::new(alloc);
-        if let Some(peer) = owed {
-            self.emit_to(alloc, peer, &mut packets)?;
-        }
+        self.emit_owed(alloc, owed, &mut packets)?;
         self.emit_due(alloc, &mut packets)?;
         Ok(packets)
+    }
+
+    // Emits the packet to the actor to whom an acknowledgement is owed, if there is one.
+    fn emit_owed(
+        &mut self,
+        alloc: Global,
+        owed: Option<u32>,
+        packets: &mut Packets,
+    ) -> Result<(), NoMemory>
+        requires { IfSome owed (λ peer. peer < ACTORS) }
+        ensures packets { OnOk result
+            (map message_of packets.new.items ≡ map message_of packets.old.items ++ owed_packets self.old owed) }
+        ensures after { OnOk result (self.new ≡ fold after_packet self.old (owed_packets self.old owed)) }
+    {
+        match owed {
+            Some(peer) => self.emit_to(alloc, peer, packets),
+            None => Ok(()),
+        }
     }
 
     // Emits the due messages, by receiver and then by number, as many as fit.

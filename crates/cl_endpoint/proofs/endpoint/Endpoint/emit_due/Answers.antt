@@ -1,4 +1,4 @@
-use Rattle.std.proofs.Common.{◌-◌, length, map, sym, ap, arith, ◌∙◌}
+use Rattle.std.proofs.Common.{◌-◌, length, map, sym, ap, arith}
 use Rattle.std.proofs.lemmas.List.{length-map}
 use Rattle.cl_steps.specs.declared.packets.TheConstants.{PACKETS_MAX}
 use Rattle.cl_wire.specs.Message.{message_of}
