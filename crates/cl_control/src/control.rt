@@ -60,6 +60,13 @@ impl Control {
         }
     }
 
+    /// In a system of how many virtual nodes it controls.
+    pub fn nodes(&self) -> u32
+        ensures { result ≡ self.now.nodes }
+    {
+        self.nodes
+    }
+
     /// Takes a command of a session, under its number there.
     ///
     /// The primary calls it for each command that a session sends: BEGIN of a transaction that is

@@ -1,0 +1,4 @@
+pub mod Asking
+pub mod Controller
+pub mod Performing
+pub mod Telling

@@ -1,0 +1,5 @@
+pub mod Inputs
+pub mod News
+pub mod Replica
+pub mod Sending
+pub mod Step
