@@ -1,0 +1,3 @@
+pub mod Busy
+pub mod Numbers
+pub mod Turns
