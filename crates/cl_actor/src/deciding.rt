@@ -73,6 +73,6 @@ pub trait Core {
         ensures { (after : Self.State) → Self.will_be self.old after → Self.is_state self.new after };
 
     // To whom a step sends does not depend on the mark.
-    ghost marks_alike: { (noted : Noted) (state : Self.State) (from : ℕ) (content : Content) (mark : Bool)
+    ghost marks_alike: { (core : Self) (noted : Noted) (state : Self.State) (from : ℕ) (content : Content) (mark : Bool) → Self.is_state core state
         → receivers (Self.delivered noted state from content mark) ≡ receivers (Self.delivered noted state from content false) };
 }

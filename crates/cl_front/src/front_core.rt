@@ -141,5 +141,5 @@ impl Core for FrontCore {
         self.recorder.settle();
     }
 
-    ghost marks_alike = { λ noted state from content mark. refl };
+    ghost marks_alike = { λ core noted state from content mark is. refl };
 }

@@ -1,0 +1,116 @@
+//! The front: its core behind its endpoint.
+ghost use Rattle.std.specs.Prelude.{◌≡◌, ◌||◌, [], not, IfOk, OnOk, OnErr};
+ghost use Rattle.cl_endpoint.specs.Endpoint.{is_waiting, set_number};
+ghost use Rattle.cl_front.specs.Machine.{FrontMachineState, IsFrontMachine, first_machine, after_quiet, after_taking, is_machine_answered, printed_by, endpoint_in};
+ghost use Rattle.cl_roster.specs.Roster.{IsClusterSize};
+ghost use Rattle.cl_serial.specs.Transcript.{transcript_of};
+
+use crate::FrontCore;
+use cl_actor::Acting;
+use cl_endpoint::Endpoint;
+use cl_post::{Machine, OutList, Outs};
+use cl_serial::Transcript;
+use cl_steps::FRONT;
+use cl_types::{NoMemory, Refused};
+use cl_wire::Packet;
+use std::alloc::Global;
+
+/// The front, actor 16: the clients' sessions, and the transcript of their lines.
+///
+/// Contracts see it as a state of its core and its endpoint (`IsFrontMachine`). After a refusal it may only be dropped, or
+/// its transcript taken, which is as before the step.
+#[derive(Drop)]
+pub struct Front {
+    acting: Acting<FrontCore>,
+}
+
+impl Front {
+    /// The front of a cluster in which nothing has happened yet, with so many nodes and spares. It allocates the sessions and the
+    /// links.
+    pub fn new(alloc: Global, nodes: u32, spares: u32) -> Result<Front, NoMemory>
+        requires { IsClusterSize nodes spares }
+        ensures { IfOk result (λ front. IsFrontMachine front (first_machine nodes spares FRONT)) }
+    {
+        let core = FrontCore::new(alloc)?;
+        let endpoint = Endpoint::new(alloc, FRONT, nodes, spares)?;
+        Ok(Front {
+            acting: Acting::new(alloc, core, endpoint),
+        })
+    }
+
+    /// The transcript.
+    pub fn transcript(&self) -> &Transcript
+        ensures { transcript_of result.now ≡ printed_by self.now }
+    {
+        self.acting.core().transcript()
+    }
+
+    /// Takes the transcript, and leaves an empty one. It may be called after a refusal too.
+    pub fn take_transcript(&mut self) -> Transcript
+        ensures taken { transcript_of result ≡ printed_by self.old }
+        ensures left { (before : FrontMachineState) → IsFrontMachine self.old before → IsFrontMachine self.new (after_taking before) }
+    {
+        self.acting.core_mut().take_transcript()
+    }
+
+    /// Puts a quiet moment into the transcript. After an error all is as before.
+    pub fn quiet(&mut self) -> Result<(), NoMemory>
+        ensures ok { (before : FrontMachineState) → IsFrontMachine self.old before → OnOk result (IsFrontMachine self.new (after_quiet before)) }
+        ensures err { OnErr result (self.new ≡ self.old) }
+    {
+        self.acting.core_mut().quiet()
+    }
+
+    /// Whether each command that was fed was answered. It takes constant time; no contract says so.
+    pub fn answered(&self) -> bool
+        ensures { (state : FrontMachineState) → IsFrontMachine self.now state → result ≡ is_machine_answered state }
+    {
+        self.acting.core().answered()
+    }
+
+    /// Whether a message of the front is unsent or unacknowledged.
+    pub fn busy(&self) -> bool
+        ensures { result ≡ is_waiting (endpoint_in self.now) }
+    {
+        self.acting.waiting()
+    }
+
+    /// How many entries of the roster the front has noted.
+    pub fn noted(&self) -> u32
+        ensures { result ≡ set_number (endpoint_in self.now) }
+    {
+        self.acting.set_number()
+    }
+}
+
+impl Machine for Front {
+    ghost use Rattle.cl_front.specs.Machine.{FrontMachineState, IsFrontMachine, FrontFits, first_machine, front_after, front_outs, is_front_spent, printed_by};
+
+    ghost State = { FrontMachineState };
+
+    ghost is_state = { IsFrontMachine };
+
+    ghost first = { first_machine };
+
+    ghost after = { front_after };
+
+    ghost outs = { front_outs };
+
+    ghost is_spent = { is_front_spent };
+
+    ghost fits = { FrontFits };
+
+    ghost transcript = { printed_by };
+
+    fn handle(&mut self, packet: &Packet) -> Result<Outs, Refused> {
+        self.acting.handle(packet)
+    }
+
+    fn tick(&mut self) -> Result<Outs, Refused> {
+        self.acting.tick()
+    }
+
+    fn feed(&mut self, line: u64, text: &[u8], said: &OutList) -> Result<Outs, Refused> {
+        self.acting.feed(line, text, said)
+    }
+}
