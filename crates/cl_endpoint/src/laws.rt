@@ -20,8 +20,8 @@ pub fn emitted_is_kept()
     ensures in_range { EmittedIsInRange }
 {}
 
-/// Emission goes packet by packet: each is the one to its receiver as things stand after those before it. No more go out
-/// than the limit, and what was due is emitted, or stays due behind what is emitted.
+/// Emission goes packet by packet: each is the one to its receiver as things stand after those before it. No more go
+/// out than the limit, and what was due is emitted, or stays due behind what is emitted.
 #[tactic(auto, using(crate::proofs::InTurn::emission_is_in_turn, crate::proofs::InTurn::emitted_are_few, crate::proofs::InTurn::due_is_emitted_or_stays, crate::proofs::InTurn::emission_marks_sent))]
 pub fn emission_is_in_turn()
     ensures turn { EmissionIsInTurn }

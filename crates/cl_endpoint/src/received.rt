@@ -20,8 +20,8 @@ pub enum Received {
 }
 
 impl Received {
-    /// To whom an acknowledgement is owed, after a packet from this actor: to its sender, where it carries a message and
-    /// is not dropped.
+    /// To whom an acknowledgement is owed, after a packet from this actor: to its sender, where it carries a message
+    /// and is not dropped.
     pub fn owed_to(self, from: u32) -> Option<u32>
         ensures { result ≡ owed_to self from }
     {

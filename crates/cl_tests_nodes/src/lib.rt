@@ -1,0 +1,9 @@
+//! Tests of actors and their parts through their public calls, a module for each.
+#![tactic(auto)]
+
+#[cfg(test)]
+mod endpoint;
+#[cfg(test)]
+mod front;
+#[cfg(test)]
+mod vnode;
