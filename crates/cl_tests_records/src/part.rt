@@ -374,3 +374,49 @@ fn a_rollback_goes_on_where_it_was_cut_off(rt: HostRuntime) -> Result<(), Fail> 
     }
     Ok(())
 }
+
+// Aborts a transaction at once: the number of its End.
+fn abort_at_once(part: &mut Part, txn: TxnId) -> Result<u64, NoSample>
+    requires { IsBelowNext part.old }
+    ensures { IsBelowNext part.new }
+{
+    match part.abort(txn) {
+        Ok(number) => Ok(number),
+        Err(_) => Err(NoSample::NoMemory),
+    }
+}
+
+// An abort in one call is the rollback step by step, also where some steps were made before.
+#[test]
+fn an_abort_undoes_what_is_left_and_ends(rt: HostRuntime) -> Result<(), Fail> {
+    for steps in 0..3 {
+        let mut part = new_part(rt.alloc());
+        let mut is_right = write_twice(&rt, rt.alloc(), &mut part)?;
+        for _ in 0..steps {
+            is_right &= undo(&rt, &mut part, ONE)?;
+        }
+        is_right &= abort_at_once(&mut part, ONE)? == 5;
+        for number in 1..6 {
+            let wanted = record_of_rollback(rt.alloc(), number)?;
+            is_right &= part.log.at(number).is_some_and(|found| *found == wanted);
+        }
+        assert!(rt;
+            is_right && holds(&part, ONE, b"b", None)? && stands(&part, b"b", 4, None)?,
+            "after {steps}"
+        );
+    }
+    Ok(())
+}
+
+#[test]
+fn a_decision_is_logged(rt: HostRuntime) -> Result<(), Fail> {
+    let mut part = new_part(rt.alloc());
+    assert!(rt; part.log.last() < LOG_NUMBER_MAX);
+    let number = part.decide(TWO)?;
+    let is_logged = part
+        .log
+        .at(number)
+        .is_some_and(|found| *found == LogRec::Decide(TWO));
+    assert!(rt; number == 1 && is_logged);
+    Ok(())
+}

@@ -1,5 +1,5 @@
 -- An operation, answered with what it gave or with want of memory.
-use Rattle.std.proofs.Common.{◌≡◌, ◌≢◌, ℕ, true, false, [], ◌∷◌, ◌++◌, refl, sym, ◌∙◌, ap, subst}
+use Rattle.std.proofs.Common.{◌≡◌, ◌≢◌, ℕ, false, [], ◌∷◌, ◌++◌, refl, sym, ◌∙◌, ap, subst}
 use Rattle.cl_types.specs.declared.answers.Answer.{Answer as OpAnswer}
 use Rattle.cl_types.specs.declared.answers.Answer.TheVariants.{Done, Refused, NoMemory}
 use Rattle.cl_types.specs.declared.operations.Op.{Op}

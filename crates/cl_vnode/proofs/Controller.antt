@@ -1,7 +1,7 @@
 -- What a controller's calls keep, and what their acts are.
 use Rattle.std.proofs.Common.{◌≡◌, ℕ, zero, suc, ◌+◌, ◌<◌, Bool, true, false, ◌&&◌, cond, List, [], ◌∷◌, ◌++◌, map, filter, flat_map, Option, Some, None, option_map, refl, sym, ◌∙◌, ap, subst, arith, inl, inr}
 use Rattle.std.proofs.lemmas.Bool.{cases_Bool, and_parts, cond-true, cond-false, false≢true}
-use Rattle.std.specs.List.{find, range_with_len}
+use Rattle.std.specs.List.{range_with_len}
 use Rattle.std.specs.Option.{option_map_or}
 use Rattle.cl_types.specs.declared.answers.AbortCause.{AbortCause}
 use Rattle.cl_types.specs.declared.answers.Answer.{Answer}
@@ -14,12 +14,12 @@ use Rattle.cl_types.specs.declared.answers.AbortCause.TheVariants.{Client}
 use Rattle.cl_types.specs.Transactions.{same_txn}
 use Rattle.cl_types.proofs.PlacementLaws.{virtual_node_of-below}
 use Rattle.cl_control.specs.declared.acts.Act.{Act}
-use Rattle.cl_control.specs.declared.acts.Act.TheVariants.{Prepare, Finish, Decide, Say}
+use Rattle.cl_control.specs.declared.acts.Act.TheVariants.{Prepare, Finish, Decide}
 use Rattle.cl_control.specs.declared.entry.Phase.{Phase}
 use Rattle.cl_control.specs.declared.entry.Phase.TheVariants.{Idle, Asked, Preparing, Decided, Logged}
 use Rattle.cl_control.specs.declared.entry.Told.{Told}
 use Rattle.cl_control.specs.Calls.{MayCommand, prepares, finishes, abort_acts, command_acts, after_command, commit_acts, commit_phase, committing, counts_answer, answered_acts, after_answered, answer_acts, after_answer, awaits_vote, is_preparing, counts_vote, is_last_vote, decided, voted, vote_acts, after_vote, is_decided, counts_number, after_decided_at, committed_acts, acts_of_told, up_to, safe_acts, after_safe}
-use Rattle.cl_control.specs.State.{Entry, ControlState, is_among, ascending, entry_named, changed, entry_of, phase_of, participants_of, with_vote, is_unanimous, with_changed}
+use Rattle.cl_control.specs.State.{Entry, ControlState, is_among, entry_named, changed, entry_of, phase_of, participants_of, with_vote, is_unanimous, with_changed}
 use Rattle.cl_vnode.specs.Sending.{IsSend, AreSends, AreActs}
 
 -- ---- there are as many nodes as before

@@ -1,4 +1,6 @@
 pub mod Asking
 pub mod Controller
+pub mod Keeping
 pub mod Performing
+pub mod Receivers
 pub mod Telling

@@ -1,8 +1,6 @@
 -- What became safe, number by number.
-use Rattle.std.proofs.Common.{◌≡◌, ◌≢◌, ℕ, ◌+◌, ◌<◌, ◌≤◌, max, nat_lt, nat_le, Bool, true, false, ◌&&◌, cond, eqb, List, [], ◌∷◌, fold, Option, Some, None, option_map, refl, sym, ◌∙◌, ap, subst, arith, inl, inr}
-use Rattle.std.proofs.lemmas.Bool.{lt-ltb, le-ltb, le-leb, lt-leb, eq-eqb, ne_eqb, cond-true, cond-false, and_left, and_right, and_from, cases_lt, cases_order, cases_Bool}
-use Rattle.std.specs.List.{find}
-use Rattle.cl_log.specs.declared.records.LogRec.{LogRec}
+use Rattle.std.proofs.Common.{◌≡◌, ◌≢◌, ℕ, ◌+◌, ◌<◌, ◌≤◌, max, nat_lt, nat_le, Bool, true, false, ◌&&◌, List, [], ◌∷◌, length, fold, Some, None, option_map, refl, sym, ◌∙◌, ap, subst, arith, inl, inr}
+use Rattle.std.proofs.lemmas.Bool.{lt-ltb, le-ltb, le-leb, lt-leb, eq-eqb, ne_eqb, cond-true, cond-false, and_left, and_right, and_from, cases_lt, cases_order}
 use Rattle.cl_log.specs.LogEntry.{LogEntry, IsNumberedFrom, content_at}
 use Rattle.cl_vnode.specs.Sending.{told_at}
 use Rattle.cl_vnode.specs.Step.{Stepped, entry_told, entries_between}
@@ -118,3 +116,12 @@ between_all old new reached log from within to = elim (cases_lt old new) [
   | inl above ↦ (let same : reached ≡ new = omega (arith, above, from, within, to) in ap (λ m. entries_between old m log) same)
   | inr below ↦ none_between old reached log (omega (arith, below, within)) ∙ sym (none_between old new log below)
 ]
+
+-- the log ends at the first number
+pub none_before : (old new n : ℕ) (log : List LogEntry) → IsNumberedFrom n log → n + length log ≤ old + 1 → entries_between old new log ≡ []
+none_before old new n [] numbered ends = refl
+none_before old new n (entry ∷ rest) numbered ends =
+    let first = numbered.0 in
+    let count : length (entry ∷ rest) ≡ length rest + 1 = omega arith in
+    between_drops old new entry rest (and_left _ _ (le-ltb old entry.number (omega (arith, first, ends, count))))
+    ∙ none_before old new (n + 1) rest numbered.1 (omega (arith, ends, count))

@@ -1,4 +1,5 @@
 pub mod Inputs
+pub mod Laws
 pub mod News
 pub mod Replica
 pub mod Sending

@@ -1,5 +1,5 @@
 -- What a safe record makes known. No public clause cites this module.
-use Rattle.std.specs.Prelude.{ℕ, Option, Some, None}
+use Rattle.std.specs.Prelude.{Option, Some, None}
 use Rattle.cl_log.specs.declared.records.LogRec.{LogRec}
 use Rattle.cl_log.specs.declared.records.LogRec.TheVariants.{Prepared, Decide}
 use Rattle.cl_vnode.specs.declared.news.News.{News}

@@ -1,5 +1,5 @@
 -- What an input makes of a replica that is primary, and what the step gives.
-use Rattle.std.specs.Prelude.{◌≡◌, ℕ, ◌%◌, nat_lt, nat_le, Bool, true, false, ◌&&◌, if◌then◌else◌, List, [], ◌∷◌, ◌++◌, filter, fold}
+use Rattle.std.specs.Prelude.{ℕ, ◌%◌, nat_lt, nat_le, Bool, true, false, ◌&&◌, if◌then◌else◌, List, [], ◌∷◌, ◌++◌, filter, fold}
 use Rattle.cl_types.specs.declared.answers.Answer.{Answer as OpAnswer}
 use Rattle.cl_types.specs.declared.answers.Answer.TheVariants.{NoMemory}
 use Rattle.cl_types.specs.declared.operations.Command.{Command as ClientCommand}

@@ -2,11 +2,13 @@
 #![tactic(auto)]
 
 mod admitting;
+mod laws;
 mod mode;
 mod news;
 mod participant;
 mod sending;
 mod vnode;
 
+pub use laws::{steps_keep_replica, steps_send_to_receivers};
 pub use mode::Mode;
 pub use vnode::Vnode;

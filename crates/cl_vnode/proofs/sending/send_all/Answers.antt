@@ -4,7 +4,7 @@ use Rattle.std.specs.Vec.Iter.{into_iter_items}
 use Rattle.cl_control.specs.declared.acts.Act.{Act}
 use Rattle.cl_steps.specs.declared.steps.Outgoing.{Outgoing}
 use Rattle.cl_steps.specs.Steps.{Step, step_of}
-use Rattle.cl_vnode.specs.Sending.{AreSends, IsSend, message_of_act, primary_of}
+use Rattle.cl_vnode.specs.Sending.{AreSends, message_of_act, primary_of}
 use Rattle.cl_vnode.proofs.sending.send_all.Goals as goal
 
 one_more : (primary : ℕ → ℕ) (old new : Step) (act : Act) (acts : List Act) → new ≡ record old { sends = old.sends ++ message_of_act primary act ∷ [] } →

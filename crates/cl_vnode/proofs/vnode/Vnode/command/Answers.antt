@@ -1,5 +1,5 @@
 -- The acts of a command are a Decide or messages.
-use Rattle.std.proofs.Common.{◌≡◌, List, OnOk, sym, ap, ◌∙◌, subst, refl}
+use Rattle.std.proofs.Common.{List, OnOk, sym, ap, ◌∙◌, subst, refl}
 use Rattle.cl_control.specs.declared.acts.Act.{Act}
 use Rattle.cl_control.specs.Calls.{command_acts, after_command}
 use Rattle.cl_control.specs.State.{ControlState}

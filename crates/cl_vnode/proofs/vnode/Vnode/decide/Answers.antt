@@ -1,5 +1,5 @@
 -- The Decide is in the log, and the controller has its number.
-use Rattle.std.proofs.Common.{◌≡◌, ℕ, List, ◌∷◌, ◌++◌, [], sym, ap, ◌∙◌}
+use Rattle.std.proofs.Common.{◌≡◌, List, ◌∷◌, ◌++◌, [], sym, ap, ◌∙◌}
 use Rattle.cl_types.specs.declared.operations.TxnId.{TxnId}
 use Rattle.cl_control.specs.Calls.{after_decided_at}
 use Rattle.cl_control.specs.State.{ControlState}

@@ -1,12 +1,12 @@
 -- The acts are one Decide, or messages.
-use Rattle.std.proofs.Common.{◌≡◌, ◌&&◌, List, OnOk, sym, ap, ◌∙◌, subst}
+use Rattle.std.proofs.Common.{◌&&◌, List, OnOk, sym, ap, ◌∙◌, subst}
 use Rattle.cl_control.specs.declared.acts.Act.{Act}
 use Rattle.cl_log.specs.Log.{next_number}
 use Rattle.cl_types.specs.GrowingList.{items}
 use Rattle.cl_vnode.specs.Inputs.{is_full}
 use Rattle.cl_vnode.specs.Sending.{HasStepped, primary_of}
 use Rattle.cl_vnode.specs.Step.{performed, all_performed}
-use Rattle.cl_vnode.proofs.Performing.{has_sent, decide_alone, sends_without, no_decide, awaited_with}
+use Rattle.cl_vnode.proofs.Performing.{has_sent, decide_alone, sends_without, no_decide}
 use Rattle.cl_vnode.proofs.vnode.Vnode.perform.Goals as goal
 
 pub returns-in-Some-clause-step : goal.returns-in-Some-clause-step

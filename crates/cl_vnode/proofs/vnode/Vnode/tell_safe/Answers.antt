@@ -1,9 +1,8 @@
 -- One number more is told of.
-use Rattle.std.proofs.Common.{◌≡◌, ℕ, ◌+◌, ◌≤◌, max, List, fold, OnOk, refl, sym, ap, ◌∙◌, subst, arith}
+use Rattle.std.proofs.Common.{◌≡◌, ℕ, ◌+◌, List, fold, refl, sym, ap, ◌∙◌, subst, arith}
 use Rattle.cl_log.specs.Log.{entries, first_kept}
 use Rattle.cl_log.specs.LogEntry.{LogEntry, IsNumberedFrom, content_at}
 use Rattle.cl_log.proofs.LogWords.{IsNumberedFrom-entries}
-use Rattle.cl_control.specs.State.{ControlState}
 use Rattle.cl_vnode.specs.Replica.{safe_number}
 use Rattle.cl_vnode.specs.Sending.{HasStepped, primary_of, told_at}
 use Rattle.cl_vnode.specs.Step.{Stepped, entry_told, entries_between, all_told}

@@ -1,5 +1,5 @@
 -- The acts of a vote are a Decide or none.
-use Rattle.std.proofs.Common.{◌≡◌, List, OnOk, sym, ap, ◌∙◌, subst, refl}
+use Rattle.std.proofs.Common.{List, OnOk, sym, ap, ◌∙◌, subst, refl}
 use Rattle.cl_control.specs.declared.acts.Act.{Act}
 use Rattle.cl_control.specs.Calls.{vote_acts, after_vote}
 use Rattle.cl_control.specs.State.{ControlState}
