@@ -1,0 +1,138 @@
+-- The replicas of a node, by virtual node.
+use Rattle.std.proofs.Common.{◌≡◌, ℕ, zero, suc, ◌<◌, ◌≤◌, nat_lt, Bool, true, false, if◌then◌else◌, ◌||◌, List, [], ◌∷◌, length, Option, Some, None, Result, Ok, Err, IfOk, slice_index_or, slice_set, refl, sym, ◌∙◌, ap, subst, arith, length-set}
+use Rattle.std.proofs.lemmas.List.{get_or_default}
+use Rattle.std.proofs.lemmas.Slice.Zip.{AllZip-long}
+use Rattle.std.specs.List.{AllZip, list_any}
+use Rattle.std.specs.Option.{option_map_or}
+use Rattle.cl_actor.specs.Core.{Noted, CoreStep, IsCoreStep}
+use Rattle.cl_node.specs.Addressing.{addressed}
+use Rattle.cl_node.specs.Node.{NodeState, no_replicas, first_node, replica_at, slot_step, is_slot_spent, delivered_for, delivered_node, is_delivery_spent, replica_for, unmoved, DeliveryFits}
+use Rattle.cl_node.specs.Slot.{IsReplicaAt, is_under_way}
+use Rattle.cl_node.specs.Marks.{slots_at}
+use Rattle.cl_post.specs.Steps.{IsSpentWhere}
+use Rattle.cl_roster.specs.declared.limits.TheConstants.{VIRTUAL_NODES_MAX}
+use Rattle.cl_steps.specs.declared.steps.Steps.{Steps}
+use Rattle.cl_steps.specs.Steps.{step_of}
+use Rattle.cl_types.specs.declared.answers.Refused.{Refused}
+use Rattle.cl_types.specs.declared.answers.Refused.TheVariants.{NoMemory, Spent}
+use Rattle.cl_vnode.specs.declared.vnode.Vnode.{Vnode}
+use Rattle.cl_vnode.specs.Inputs as inputs
+use Rattle.cl_vnode.specs.Inputs.{Fits, is_spent}
+use Rattle.cl_vnode.specs.Replica.{ReplicaState, first_replica, IsReplicaStateOf, is_busy, is_lasting}
+use Rattle.cl_vnode.specs.Step.{primary_in, stepped}
+use Rattle.cl_wire.specs.Message.{Content}
+
+-- ---- one replica
+
+-- the step of a replica that is there
+pub handed : (noted : Noted) (vnode new : Vnode) (before : Option ReplicaState) (from : ℕ) (content : Content) (result : Result Steps Refused) →
+    ((replica : ReplicaState) → IsReplicaStateOf vnode replica → IfOk result (λ steps.
+    let after = stepped (primary_in noted.nodes noted.entries) replica from content steps.short in IsReplicaStateOf new after.state × (step_of steps ≡ after.step))) →
+    IsReplicaAt (Some vnode) before →
+    IfOk result (λ steps. let after = slot_step noted before from content steps.short in IsReplicaAt (Some new) after.0 × (step_of steps ≡ after.1))
+handed noted vnode new None from content result steps is = absurd is
+handed noted vnode new (Some replica) from content result steps is = steps replica is
+
+-- where it is spent
+pub handed_spent : (vnode : Vnode) (before : Option ReplicaState) (content : Content) (result : Result Steps Refused) →
+    ((replica : ReplicaState) → IsReplicaStateOf vnode replica → inputs.IsSpentWhere (is_spent replica content) result) →
+    IsReplicaAt (Some vnode) before → IsSpentWhere (is_slot_spent before content) result
+handed_spent vnode None content result spent is = absurd is
+handed_spent vnode (Some replica) content (Ok steps) spent is = spent replica is
+handed_spent vnode (Some replica) content (Err Spent) spent is = spent replica is
+handed_spent vnode (Some replica) content (Err NoMemory) spent is = tt
+
+-- ---- the replicas
+
+-- one of them has changed on both sides
+pub zip_set : (vnodes : List (Option Vnode)) (replicas : List (Option ReplicaState)) (v : ℕ) (vnode : Option Vnode) (replica : Option ReplicaState) →
+    AllZip IsReplicaAt vnodes replicas → IsReplicaAt vnode replica → AllZip IsReplicaAt (slice_set vnodes v vnode) (slice_set replicas v replica)
+zip_set [] [] v vnode replica are is = tt
+zip_set [] (y ∷ ys) v vnode replica are is = absurd are
+zip_set (x ∷ xs) [] v vnode replica are is = absurd are
+zip_set (x ∷ xs) (y ∷ ys) zero vnode replica are is = (is, are.1)
+zip_set (x ∷ xs) (y ∷ ys) (suc v) vnode replica are is = (are.0, zip_set xs ys v vnode replica are.1 is)
+
+-- beyond them there is none
+none_beyond : (vnodes : List (Option Vnode)) (replicas : List (Option ReplicaState)) (v : ℕ) → AllZip IsReplicaAt vnodes replicas → length vnodes ≤ v →
+    (slice_index_or replicas v None ≡ None) × (slice_set replicas v None ≡ replicas)
+none_beyond [] [] v are beyond = (refl, refl)
+none_beyond [] (y ∷ ys) v are beyond = absurd are
+none_beyond (x ∷ xs) [] v are beyond = absurd are
+none_beyond (x ∷ xs) (y ∷ ys) zero are beyond = absurd (omega arith)
+none_beyond (x ∷ xs) (y ∷ ys) (suc v) are beyond =
+    let rest = none_beyond xs ys v are.1 (omega arith) in (rest.0, ap (λ (list : List (Option ReplicaState)). y ∷ list) rest.1)
+
+pub replica_beyond : (vnodes : List (Option Vnode)) (state : NodeState) (v : ℕ) → AllZip IsReplicaAt vnodes state.replicas → length vnodes ≤ v → replica_at state v ≡ None
+replica_beyond vnodes state v are beyond = (none_beyond vnodes state.replicas v are beyond).0
+
+-- the replica at a place that is read with another default
+pub at_index : (vnodes : List (Option Vnode)) (state : NodeState) (v : ℕ) (default : Option Vnode) → AllZip IsReplicaAt vnodes state.replicas → v < length vnodes →
+    IsReplicaAt (slice_index_or vnodes v default) (replica_at state v)
+at_index vnodes state v default are within = subst (λ (slot : Option Vnode). IsReplicaAt slot (replica_at state v)) (get_or_default vnodes v None default within) (slots_at vnodes state.replicas are v)
+
+-- something is under way at a replica on both sides
+under_way : (vnode : Option Vnode) (replica : Option ReplicaState) → IsReplicaAt vnode replica → is_under_way vnode ≡ option_map_or is_busy replica false
+under_way None None is = refl
+under_way None (Some replica) is = absurd is
+under_way (Some vnode) None is = absurd is
+under_way (Some vnode) (Some replica) is = ap is_lasting is.mode
+
+-- at one of them
+pub any_under_way : (vnodes : List (Option Vnode)) (replicas : List (Option ReplicaState)) → AllZip IsReplicaAt vnodes replicas →
+    list_any is_under_way vnodes ≡ list_any (λ (replica : Option ReplicaState). option_map_or is_busy replica false) replicas
+any_under_way [] [] are = refl
+any_under_way [] (y ∷ ys) are = absurd are
+any_under_way (x ∷ xs) [] are = absurd are
+any_under_way (x ∷ xs) (y ∷ ys) are =
+    let first = under_way x y are.0 in let rest = any_under_way xs ys are.1 in rw (first, rest) refl
+
+-- ---- a message
+
+module _ (noted : Noted) (vnodes : List (Option Vnode)) (state : NodeState) (from v : ℕ) (content : Content)
+    (are : AllZip IsReplicaAt vnodes state.replicas) (for : addressed noted.nodes content ≡ Some v) where
+  -- it is handed to its replica
+  pub delivered : (new : Option Vnode) (result : Result Steps Refused) →
+      IfOk result (λ steps. let after = slot_step noted (replica_at state v) from content steps.short in IsReplicaAt new after.0 × (step_of steps ≡ after.1)) →
+      IsCoreStep (λ (after : NodeState). AllZip IsReplicaAt (slice_set vnodes v new) after.replicas) (delivered_node noted state from content) result
+  delivered new (Err refused) step = tt
+  delivered new (Ok steps) step =
+      subst (λ (to : Option ℕ). AllZip IsReplicaAt (slice_set vnodes v new) (delivered_for noted state from content steps.short to).state.replicas
+      × (step_of steps ≡ (delivered_for noted state from content steps.short to).step)) (sym for)
+      (zip_set vnodes state.replicas v new _ are step.0, step.1)
+
+  pub delivered_spent : (result : Result Steps Refused) → IsSpentWhere (is_slot_spent (replica_at state v) content) result →
+      IsSpentWhere (is_delivery_spent noted state from content) result
+  delivered_spent result spent = subst (λ (to : Option ℕ). IsSpentWhere (is_slot_spent (replica_for state to) content) result) (sym for) spent
+
+  -- it is for a virtual node that is not there
+  pub delivered_nowhere : (mark : Bool) → length vnodes ≤ v → delivered_node noted state from content mark ≡ unmoved state
+  delivered_nowhere mark beyond =
+      let none = none_beyond vnodes state.replicas v are beyond in
+      ap (delivered_for noted state from content mark) for
+      ∙ ap (λ (slot : Option ReplicaState). let after = slot_step noted slot from content mark in
+      (let moved : CoreStep NodeState = record { state = record state { replicas = slice_set state.replicas v after.0 }; step = after.1 } in moved)) none.0
+      ∙ ap (λ (list : List (Option ReplicaState)). record (unmoved state) { state = record state { replicas = list } }) none.1
+
+  pub nowhere_unspent : length vnodes ≤ v → is_delivery_spent noted state from content ≡ false
+  nowhere_unspent beyond =
+      ap (λ (to : Option ℕ). is_slot_spent (replica_for state to) content) for
+      ∙ ap (λ (slot : Option ReplicaState). is_slot_spent slot content) (none_beyond vnodes state.replicas v are beyond).0
+
+  -- its replica is there, where it fits
+  pub fits_there : (slot : Option Vnode) → IsReplicaAt slot (replica_at state v) → DeliveryFits noted state from content →
+      (replica : ReplicaState) × IsReplicaAt slot (Some replica) × Fits noted.nodes replica content
+  fits_there slot is fit =
+      let here : replica_at state v ≡ Some fit.replica = sym (ap (replica_for state) for) ∙ fit.here in
+      (fit.replica, subst (λ (replica : Option ReplicaState). IsReplicaAt slot replica) here is, fit.fits)
+
+-- ---- the first replicas
+
+length_either : (b : Bool) (me : ℕ) (replica : Option ReplicaState) → length (if b then slice_set no_replicas me replica else no_replicas) ≡ VIRTUAL_NODES_MAX
+length_either true me replica = length-set no_replicas me replica
+length_either false me replica = refl
+
+-- there are as many as virtual nodes
+pub first_counted : (vnodes : List (Option Vnode)) (nodes me : ℕ) → AllZip IsReplicaAt vnodes (first_node nodes me).replicas → length vnodes ≡ VIRTUAL_NODES_MAX
+first_counted vnodes nodes me are =
+    sym (AllZip-long IsReplicaAt vnodes (first_node nodes me).replicas are) ∙ length_either (nat_lt me nodes) me (Some (first_replica me nodes))

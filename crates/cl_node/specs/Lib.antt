@@ -1,0 +1,6 @@
+pub mod Addressing
+pub mod Machine
+pub mod Marks
+pub mod Node
+pub mod NodeCore
+pub mod Slot

@@ -1,0 +1,71 @@
+//! The core of a node.
+ghost use Rattle.std.specs.Prelude.{◌≡◌, length};
+ghost use Rattle.std.specs.List.{AllZip};
+ghost use Rattle.cl_node.specs.Node.{first_node};
+ghost use Rattle.cl_node.specs.Slot.{IsReplicaAt};
+ghost use Rattle.cl_types.specs.Placement.{IsNodeCount};
+ghost use Rattle.cl_roster.specs.declared.limits.TheConstants.{VIRTUAL_NODES_MAX};
+
+use crate::slot::is_any_busy;
+use cl_roster::VIRTUAL_NODES_MAX;
+use cl_vnode::Vnode;
+use std::alloc::Global;
+
+/// The core of a node: a replica of each virtual node of which it is a member.
+///
+/// It hands each message that was accepted to the replica of the virtual node that the message is for.
+#[derive(Drop)]
+pub struct NodeCore {
+    /// By virtual node.
+    pub(crate) replicas: [Option<Vnode>; VIRTUAL_NODES_MAX],
+    pub(crate) alloc: Global,
+    ghost counted: { length replicas ≡ VIRTUAL_NODES_MAX },
+}
+
+// The replicas of the node `me` at the start.
+fn first_replicas(alloc: Global, me: u32, nodes: u32) -> [Option<Vnode>; VIRTUAL_NODES_MAX]
+    requires { IsNodeCount nodes }
+    ensures { AllZip IsReplicaAt result (first_node nodes me).replicas }
+{
+    let mut replicas = [None, None, None, None, None, None, None, None];
+    if me < nodes {
+        replicas[me as usize] = Some(Vnode::new(alloc, me, nodes));
+    }
+    replicas
+}
+
+impl NodeCore {
+    ghost use Rattle.std.specs.Prelude.{◌≡◌, option_copied};
+    ghost use Rattle.cl_node.specs.Node.{NodeState, is_any_busy, replica_at};
+    ghost use Rattle.cl_node.specs.NodeCore.{IsNodeState};
+
+    /// The core of the node `me` at the start of a cluster of so many nodes: a node is the primary of the virtual node of its
+    /// own number, which has no standby, and a spare is no member. It allocates nothing.
+    pub fn new(alloc: Global, me: u32, nodes: u32) -> NodeCore
+        requires { IsNodeCount nodes }
+        ensures { IsNodeState result (first_node nodes me) }
+    {
+        NodeCore {
+            replicas: first_replicas(alloc, me, nodes),
+            alloc,
+        }
+    }
+
+    /// The replica of a virtual node, where the node is a member of it.
+    pub fn replica(&self, v: u32) -> Option<&Vnode>
+        ensures { (state : NodeState) → IsNodeState self.now state → IsReplicaAt (option_copied result) (replica_at state v) }
+    {
+        let index = v as usize;
+        if index >= VIRTUAL_NODES_MAX {
+            return None;
+        }
+        self.replicas[index].as_ref()
+    }
+
+    /// Whether something is under way at a replica between two steps: a rollback, an inquiry or a repair.
+    pub fn busy(&self) -> bool
+        ensures { (state : NodeState) → IsNodeState self.now state → result ≡ is_any_busy state }
+    {
+        is_any_busy(&self.replicas)
+    }
+}
