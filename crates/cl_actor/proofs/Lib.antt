@@ -1,2 +1,3 @@
 pub mod Handling
 pub mod Receivers
+pub mod Primaries

@@ -2,16 +2,18 @@
 ghost use Rattle.std.specs.Prelude.{◌≡◌, ◌<◌, IfOk, IfSome, OnOk, OnErr, false};
 ghost use Rattle.std.specs.Borrow.{Lends, sem};
 ghost use Rattle.std.specs.List.{All};
-ghost use Rattle.cl_endpoint.specs.Endpoint.{is_spent_by, is_waiting, set_number};
+ghost use Rattle.cl_endpoint.specs.Endpoint.{is_spent_by, is_waiting, received, set_number};
 ghost use Rattle.cl_post.specs.Steps.{IsSpentWhere, outs_of};
 ghost use Rattle.cl_steps.specs.Steps.{step_of, nothing_done};
-ghost use Rattle.cl_actor.specs.Acting.{core_of, endpoint_of, with_core, endpoint_after, outs_after};
+ghost use Rattle.cl_actor.specs.Acting.{core_of, endpoint_of, noted_in, with_core, endpoint_after, outs_after};
+ghost use Rattle.cl_actor.specs.Core.{noted_of};
 ghost use Rattle.cl_actor.specs.contracts.acting.Acting.{the_row};
 
 use crate::Core;
 use cl_endpoint::{ACTORS, Endpoint, Received};
 use cl_log::TxnList;
 use cl_post::{Machine, OutList, Outs};
+use cl_roster::Roster;
 use cl_steps::Steps;
 use cl_types::Refused;
 use cl_wire::Packet;
@@ -60,6 +62,21 @@ impl<C> Acting<C> {
         ensures { result ≡ is_waiting (endpoint_of self.now) }
     {
         self.endpoint.waiting()
+    }
+
+    /// What the actor has noted of the roster.
+    pub fn roster(&self) -> &Roster
+        ensures { noted_of result.now ≡ noted_in (endpoint_of self.now) }
+    {
+        self.endpoint.roster()
+    }
+
+    /// What would become of a packet.
+    pub fn received(&self, packet: &Packet) -> Received
+        requires { packet.now.from < ACTORS }
+        ensures { result ≡ received (endpoint_of self.now) packet.now.from packet.now.seq }
+    {
+        self.endpoint.received(packet.from, packet.seq)
     }
 
     /// How many entries of the roster the actor has noted.

@@ -3,6 +3,8 @@
 
 mod acting;
 mod deciding;
+mod laws;
 
 pub use acting::Acting;
 pub use deciding::Core;
+pub use laws::primaries_are_actors;

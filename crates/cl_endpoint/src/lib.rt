@@ -3,6 +3,7 @@
 
 mod emission;
 mod endpoint;
+mod expecting;
 mod laws;
 mod limits;
 mod received;

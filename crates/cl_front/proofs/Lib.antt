@@ -1,3 +1,5 @@
+pub mod Admitting
 pub mod Busy
 pub mod Numbers
+pub mod Sends
 pub mod Turns

@@ -1,6 +1,8 @@
 -- Which state a front's core has.
-use Rattle.std.specs.Prelude.{◌≡◌, List, [], ◌++◌}
+use Rattle.std.specs.Prelude.{◌≡◌, ℕ, List, [], ◌++◌}
 use Rattle.cl_front.specs.Front.{FrontState}
+use Rattle.cl_front.specs.Session.{HasNextNumber}
+use Rattle.cl_front.specs.Sessions.{session_in}
 use Rattle.cl_front.specs.declared.front_core.FrontCore.{FrontCore}
 use Rattle.cl_serial.specs.Transcript.{TranscriptEntry}
 
@@ -18,3 +20,7 @@ pub record WillBeFront (core : FrontCore) (state : FrontState) : Type 0 where
 -- the transcript that the core has
 abbrev pub transcript_in : FrontCore → List TranscriptEntry
 transcript_in core = core.recorder.transcript
+
+-- the next command of each session can have a number
+abbrev pub IsReady : FrontState → Type 0
+IsReady state = (s : ℕ) → HasNextNumber (session_in state.sessions s).current

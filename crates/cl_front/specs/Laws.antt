@@ -1,6 +1,8 @@
 -- The laws of the front.
 use Rattle.std.specs.Prelude.{ℕ, ◌+◌, ◌<◌, ◌≤◌, ◌^◌, Bool, List, Option, Some, None}
+use Rattle.cl_actor.specs.Acting.{SendsToActors}
 use Rattle.cl_actor.specs.Core.{Noted}
+use Rattle.cl_actor.specs.Laws.{IsLawfullyNoted}
 use Rattle.cl_front.specs.declared.current.Current.{Current}
 use Rattle.cl_front.specs.Front.{FrontState, new_front, fed_front, delivered_front, LineFits, DeliveryFits}
 use Rattle.cl_front.specs.Sessions.{session_in}
@@ -29,3 +31,10 @@ pub record NumbersGrowByOne : Type 0 where
       AreNumberedUpTo most state → most + 1 < 2 ^ 32 → LineFits noted state line text said
   pub outcome_fits : (noted : Noted) (state : FrontState) (from : ℕ) (txn : TxnId) (number : ℕ) (outcome : CommandOutcome) (most : ℕ) →
       AreNumberedUpTo most state → most + 1 < 2 ^ 32 → DeliveryFits noted state from (Outcome txn number outcome)
+
+-- a front sends to actors alone, whatever it is fed and hears
+pub record FrontsSendToActors : Type 0 where
+  pub on_line : (noted : Noted) (state : FrontState) (line : ℕ) (text : List ℕ) (said : List Out) →
+      IsLawfullyNoted noted → SendsToActors (fed_front noted state line text said)
+  pub on_message : (noted : Noted) (state : FrontState) (from : ℕ) (content : Content) (mark : Bool) →
+      IsLawfullyNoted noted → SendsToActors (delivered_front noted state from content mark)

@@ -7,6 +7,7 @@ use Rattle.cl_front.specs.Front.{FrontState, new_front, delivered_front, fed_fro
 use Rattle.cl_front.specs.FrontCore.{IsFront, transcript_in}
 use Rattle.cl_post.specs.Steps.{Input, OutsData}
 use Rattle.cl_serial.specs.Transcript.{TranscriptEntry}
+use Rattle.cl_wire.specs.Message.{Content, Outcome}
 
 -- what the front has: a state of its core, and its endpoint
 abbrev pub FrontMachineState : Type 0
@@ -55,3 +56,8 @@ after_taking before = record before { core = record before.core { transcript = [
 -- each command that was fed was answered
 abbrev pub is_machine_answered : FrontMachineState → Bool
 is_machine_answered state = is_answered state.core
+
+-- the message is an outcome
+abbrev pub IsOutcome : Content → Type 0
+IsOutcome (Outcome txn number outcome) = Unit {0}
+IsOutcome content = ⊥

@@ -1,7 +1,7 @@
 //! The core of the front.
-ghost use Rattle.std.specs.Prelude.{◌≡◌, [], IfOk, OnOk, OnErr};
+ghost use Rattle.std.specs.Prelude.{◌≡◌, [], IsTrue, IfOk, OnOk, OnErr};
 ghost use Rattle.cl_front.specs.Front.{FrontState, new_front, quiet_front, is_answered};
-ghost use Rattle.cl_front.specs.FrontCore.{IsFront, transcript_in};
+ghost use Rattle.cl_front.specs.FrontCore.{IsFront, IsReady, transcript_in};
 ghost use Rattle.cl_serial.specs.Transcript.{transcript_of};
 
 use crate::recorder::Recorder;
@@ -62,6 +62,13 @@ impl FrontCore {
         self.recorder.put_aside(Said::Quiet)?;
         self.recorder.settle();
         Ok(())
+    }
+
+    /// Whether the step before was settled, and the next command of each session can have a number. It asks each session.
+    pub(crate) fn is_ready(&self) -> bool
+        ensures { IsTrue result → (state : FrontState) × IsFront self.now state × IsReady state }
+    {
+        self.recorder.is_settled() && self.sessions.have_next_numbers()
     }
 
     /// Whether each command that was fed was answered. It takes constant time; no contract says so.

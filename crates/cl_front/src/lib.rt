@@ -12,6 +12,6 @@ mod sessions;
 
 pub use current::Current;
 pub use front_core::FrontCore;
-pub use laws::numbers_grow_by_one;
+pub use laws::{fronts_send_to_actors, numbers_grow_by_one};
 pub use limits::TXN_NUMBER_MAX;
 pub use machine::Front;

@@ -1,18 +1,23 @@
 //! The front: its core behind its endpoint.
-ghost use Rattle.std.specs.Prelude.{◌≡◌, ◌||◌, [], not, IfOk, OnOk, OnErr};
-ghost use Rattle.cl_endpoint.specs.Endpoint.{is_waiting, set_number};
-ghost use Rattle.cl_front.specs.Machine.{FrontMachineState, IsFrontMachine, first_machine, after_quiet, after_taking, is_machine_answered, printed_by, endpoint_in};
+ghost use Rattle.std.specs.Prelude.{◌≡◌, ◌<◌, ℕ, List, IsTrue, IfOk, OnOk, OnErr};
+ghost use Rattle.cl_endpoint.specs.declared.limits.TheConstants.{ACTORS};
+ghost use Rattle.cl_endpoint.specs.Endpoint.{is_waiting, received, set_number};
+ghost use Rattle.cl_front.specs.Machine.{FrontFits, FrontMachineState, IsFrontMachine, IsOutcome, first_machine, after_quiet, after_taking, is_machine_answered, printed_by, endpoint_in};
+ghost use Rattle.cl_lines.specs.declared.out.Out.{Out as Printed};
+ghost use Rattle.cl_post.specs.Steps.{handle, feed};
 ghost use Rattle.cl_roster.specs.Roster.{IsClusterSize};
 ghost use Rattle.cl_serial.specs.Transcript.{transcript_of};
+ghost use Rattle.cl_wire.specs.Message.{content_of, message_of};
 
 use crate::FrontCore;
 use cl_actor::Acting;
-use cl_endpoint::Endpoint;
+use cl_endpoint::{ACTORS, Endpoint, Received};
 use cl_post::{Machine, OutList, Outs};
+use cl_roster::rosters_are_lawful;
 use cl_serial::Transcript;
 use cl_steps::FRONT;
 use cl_types::{NoMemory, Refused};
-use cl_wire::Packet;
+use cl_wire::{Body, Packet};
 use std::alloc::Global;
 
 /// The front, actor 16: the clients' sessions, and the transcript of their lines.
@@ -59,6 +64,34 @@ impl Front {
         ensures err { OnErr result (self.new ≡ self.old) }
     {
         self.acting.core_mut().quiet()
+    }
+
+    /// Whether the front can be fed any line now. It asks each session, and a caller that feeds few lines need not ask.
+    pub fn admits_lines(&self) -> bool
+        ensures { IsTrue result → (before : FrontMachineState) × IsFrontMachine self.now before
+            × ((line : ℕ) (text : List ℕ) (said : List Printed) → FrontFits before (feed line text said)) }
+    {
+        rosters_are_lawful(self.acting.roster());
+        self.acting.core().is_ready()
+    }
+
+    /// Whether the front can handle the packet now. It asks each session, and a caller that keeps to the order need not ask.
+    pub fn admits(&self, packet: &Packet) -> bool
+        ensures { IsTrue result → (before : FrontMachineState) × IsFrontMachine self.now before × FrontFits before (handle (message_of packet.now)) }
+    {
+        rosters_are_lawful(self.acting.roster());
+        if packet.from as usize >= ACTORS {
+            return false;
+        }
+        self.expects_outcome(packet) && self.acting.core().is_ready()
+    }
+
+    // Whether the packet is an outcome, where it would be accepted now.
+    fn expects_outcome(&self, packet: &Packet) -> bool
+        requires { packet.now.from < ACTORS }
+        ensures { IsTrue result → received (endpoint_in self.now) packet.now.from packet.now.seq ≡ Received.Now → IsOutcome (content_of packet.now.body) }
+    {
+        self.acting.received(packet) != Received::Now || matches!(packet.body, Body::Outcome(..))
     }
 
     /// Whether each command that was fed was answered. It takes constant time; no contract says so.

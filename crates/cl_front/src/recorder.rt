@@ -1,5 +1,5 @@
 //! The transcript, and what the last step printed.
-ghost use Rattle.std.specs.Prelude.{◌≡◌, [], ◌∷◌, ◌++◌, IfOk, OnOk, OnErr};
+ghost use Rattle.std.specs.Prelude.{◌≡◌, [], ◌∷◌, ◌++◌, IsTrue, IfOk, OnOk, OnErr};
 ghost use Rattle.cl_serial.specs.Transcript.{transcript_entry, transcript_of};
 
 use cl_serial::{Said, Transcript};
@@ -62,6 +62,13 @@ impl Recorder {
         while let Some(said) = self.aside.pop_front() {
             self.transcript.push_reserved(said);
         }
+    }
+
+    /// Whether nothing is kept aside.
+    pub(crate) fn is_settled(&self) -> bool
+        ensures { IsTrue result → self.now.aside ≡ [] }
+    {
+        self.aside.is_empty()
     }
 
     /// The transcript, without what is kept aside.

@@ -1,5 +1,5 @@
 //! A session: its commands have their turns one at a time.
-ghost use Rattle.std.specs.Prelude.{◌≡◌, ◌==◌, ◌&&◌, [], ◌∷◌, ◌++◌, map, nat_le, IfOk, OnOk, OnErr};
+ghost use Rattle.std.specs.Prelude.{◌≡◌, ◌==◌, ◌&&◌, [], ◌∷◌, ◌++◌, map, nat_le, IsTrue, IfOk, OnOk, OnErr};
 ghost use Rattle.cl_actor.specs.Core.{noted_of};
 ghost use Rattle.cl_front.specs.Session.{no_session, is_outstanding, is_busy, is_awaited_in, with_waiting, turned, next_current, begun_after, is_spent_by, forwarded, command_sent, current_after, taken, heard, HasNextNumber};
 ghost use Rattle.cl_front.specs.Turns.{IsNextTurn};
@@ -192,6 +192,16 @@ impl Session {
         self.current = current_after(self.current, &outcome);
         recorder.put_aside(Said::Out(Out::Answer(number, outcome)))?;
         self.take_turns(number, roster, recorder, steps)
+    }
+
+    /// Whether the next command of the transaction can have a number.
+    pub(crate) fn has_next_number(&self) -> bool
+        ensures { IsTrue result → HasNextNumber self.now.current }
+    {
+        match self.current {
+            Some(current) => current.commands < u32::MAX,
+            None => true,
+        }
     }
 
     // Lets a command wait behind the others.

@@ -1,6 +1,6 @@
 //! The sessions of the front.
-ghost use Rattle.std.specs.Prelude.{◌≡◌, ◌+◌, ◌≤◌, ◌++◌, map, replicate, true, if◌then◌else◌, IfOk, OnOk};
-ghost use Rattle.std.specs.List.{list_any};
+ghost use Rattle.std.specs.Prelude.{◌≡◌, ◌+◌, ◌≤◌, ◌++◌, map, replicate, true, if◌then◌else◌, IsTrue, IfOk, OnOk};
+ghost use Rattle.std.specs.List.{All, list_any};
 ghost use Rattle.cl_actor.specs.Core.{noted_of};
 ghost use Rattle.cl_front.specs.Session.{no_session, is_busy, with_waiting, taken, heard, HasNextNumber};
 ghost use Rattle.cl_front.specs.Sessions.{session_in, with_session, is_awaited};
@@ -69,6 +69,15 @@ impl Sessions {
         ensures { result ≡ list_any is_busy self.now }
     {
         self.busy > 0
+    }
+
+    /// Whether the next command of each session can have a number. It asks each.
+    pub(crate) fn have_next_numbers(&self) -> bool
+        ensures { IsTrue result → All (λ session. HasNextNumber session.current) self.now }
+    {
+        self.sessions
+            .iter()
+            .all(|session| session.has_next_number())
     }
 
     /// Whether the transaction is that of its session, and its command of this number waits for its outcome.

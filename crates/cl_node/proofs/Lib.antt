@@ -1,1 +1,3 @@
+pub mod Admitting
+pub mod Sends
 pub mod Slots

@@ -1,6 +1,6 @@
 -- The replicas of a node, by virtual node.
-use Rattle.std.proofs.Common.{◌≡◌, ℕ, zero, suc, ◌<◌, ◌≤◌, nat_lt, Bool, true, false, if◌then◌else◌, ◌||◌, List, [], ◌∷◌, length, Option, Some, None, Result, Ok, Err, IfOk, slice_index_or, slice_set, refl, sym, ◌∙◌, ap, subst, arith, length-set}
-use Rattle.std.proofs.lemmas.List.{get_or_default}
+use Rattle.std.proofs.Common.{◌≡◌, ℕ, zero, suc, ◌<◌, ◌≤◌, nat_lt, Bool, true, false, if◌then◌else◌, List, [], ◌∷◌, length, Option, Some, None, Result, Ok, Err, IfOk, slice_index_or, slice_set, refl, sym, ◌∙◌, ap, subst, arith, length-set}
+use Rattle.std.proofs.lemmas.List.{get_or_default, get_or-set_same, set-get_or}
 use Rattle.std.proofs.lemmas.Slice.Zip.{AllZip-long}
 use Rattle.std.specs.List.{AllZip, list_any}
 use Rattle.std.specs.Option.{option_map_or}
@@ -9,6 +9,7 @@ use Rattle.cl_node.specs.Addressing.{addressed}
 use Rattle.cl_node.specs.Node.{NodeState, no_replicas, first_node, replica_at, slot_step, is_slot_spent, delivered_for, delivered_node, is_delivery_spent, replica_for, unmoved, DeliveryFits}
 use Rattle.cl_node.specs.Slot.{IsReplicaAt, is_under_way}
 use Rattle.cl_node.specs.Marks.{slots_at}
+use Rattle.cl_part.proofs.States.{every_part_has_state}
 use Rattle.cl_post.specs.Steps.{IsSpentWhere}
 use Rattle.cl_roster.specs.declared.limits.TheConstants.{VIRTUAL_NODES_MAX}
 use Rattle.cl_steps.specs.declared.steps.Steps.{Steps}
@@ -136,3 +137,30 @@ length_either false me replica = refl
 pub first_counted : (vnodes : List (Option Vnode)) (nodes me : ℕ) → AllZip IsReplicaAt vnodes (first_node nodes me).replicas → length vnodes ≡ VIRTUAL_NODES_MAX
 first_counted vnodes nodes me are =
     sym (AllZip-long IsReplicaAt vnodes (first_node nodes me).replicas are) ∙ length_either (nat_lt me nodes) me (Some (first_replica me nodes))
+
+-- ---- some state
+
+replica_has_state : (slot : Option Vnode) → (replica : Option ReplicaState) × IsReplicaAt slot replica
+replica_has_state None = (None, tt)
+replica_has_state (Some vnode) =
+    let part = every_part_has_state vnode.part in
+    (Some (record { v = vnode.v; part = part.0; control = vnode.control; mode = vnode.mode }), record { v = refl; part = part.1; control = refl; mode = refl })
+
+-- the replicas have a state
+pub node_has_state : (vnodes : List (Option Vnode)) → (state : NodeState) × AllZip IsReplicaAt vnodes state.replicas
+node_has_state [] = (record { replicas = [] }, tt)
+node_has_state (slot ∷ slots) =
+    let first = replica_has_state slot in let rest = node_has_state slots in
+    (record { replicas = first.0 ∷ rest.0.replicas }, (first.1, rest.1))
+
+-- and one in which a replica has this state, where the replica has it
+pub node_has_state_with : (vnodes : List (Option Vnode)) (v : ℕ) (default : Option Vnode) (replica : ReplicaState) → v < length vnodes → IsReplicaAt (slice_index_or vnodes v default) (Some replica) →
+    (state : NodeState) × AllZip IsReplicaAt vnodes state.replicas × (replica_at state v ≡ Some replica)
+node_has_state_with vnodes v default replica within is =
+    let any = node_has_state vnodes in
+    let long = AllZip-long IsReplicaAt vnodes any.0.replicas any.1 in (
+      record { replicas = slice_set any.0.replicas v (Some replica) },
+      subst (λ (slots : List (Option Vnode)). AllZip IsReplicaAt slots (slice_set any.0.replicas v (Some replica))) (set-get_or vnodes v default)
+          (zip_set vnodes any.0.replicas v (slice_index_or vnodes v default) (Some replica) any.1 is),
+      get_or-set_same any.0.replicas v (Some replica) None (omega (arith, long, within)),
+    )

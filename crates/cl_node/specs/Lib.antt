@@ -1,4 +1,5 @@
 pub mod Addressing
+pub mod Laws
 pub mod Machine
 pub mod Marks
 pub mod Node

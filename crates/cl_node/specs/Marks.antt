@@ -10,7 +10,7 @@ use Rattle.cl_node.specs.Slot.{IsReplicaAt}
 use Rattle.cl_vnode.specs.declared.vnode.Vnode.{Vnode}
 use Rattle.cl_vnode.specs.Replica.{ReplicaState}
 use Rattle.cl_vnode.specs.Step.{primary_in}
-use Rattle.cl_vnode.proofs.Receivers.{marks_are_alike as replica_alike}
+use Rattle.cl_vnode.proofs.Receivers.{marks_are_alike as replica_marks}
 use Rattle.cl_wire.specs.Message.{Content}
 
 -- by the replica that the message is for
@@ -20,7 +20,7 @@ by_replica noted state from content mark v None None is = refl
 by_replica noted state from content mark v None (Some replica) is = absurd is
 by_replica noted state from content mark v (Some vnode) None is = refl
 by_replica noted state from content mark v (Some vnode) (Some replica) is =
-    replica_alike vnode replica is (primary_in noted.nodes noted.entries) from content mark
+    replica_marks vnode replica is (primary_in noted.nodes noted.entries) from content mark
 
 -- the replicas of two lists that go together
 pub slots_at : (vnodes : List (Option Vnode)) (replicas : List (Option ReplicaState)) → AllZip IsReplicaAt vnodes replicas → (v : ℕ) →

@@ -1,5 +1,5 @@
 -- The core of a node as plain data, and what each of its steps leaves and gives.
-use Rattle.std.specs.Prelude.{◌≡◌, ℕ, ◌<◌, nat_lt, Bool, false, if◌then◌else◌, List, replicate, Option, Some, None, slice_index_or, slice_set}
+use Rattle.std.specs.Prelude.{◌≡◌, ℕ, nat_lt, Bool, false, if◌then◌else◌, List, replicate, Option, Some, None, slice_index_or, slice_set}
 use Rattle.std.specs.List.{list_any}
 use Rattle.std.specs.Option.{option_map_or}
 use Rattle.cl_actor.specs.Core.{Noted, CoreStep}

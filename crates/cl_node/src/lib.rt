@@ -3,9 +3,11 @@
 
 mod addressing;
 mod deciding;
+mod laws;
 mod machine;
 mod node_core;
 mod slot;
 
+pub use laws::nodes_send_to_actors;
 pub use machine::Node;
 pub use node_core::NodeCore;

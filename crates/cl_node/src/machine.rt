@@ -1,15 +1,18 @@
 //! A node: its core behind its endpoint.
-ghost use Rattle.std.specs.Prelude.{◌≡◌, ◌<◌, IfOk, option_copied};
+ghost use Rattle.std.specs.Prelude.{◌≡◌, ◌<◌, IsTrue, IfOk, option_copied};
 ghost use Rattle.cl_endpoint.specs.declared.limits.TheConstants.{ACTORS};
 ghost use Rattle.cl_endpoint.specs.Endpoint.{is_waiting, set_number};
-ghost use Rattle.cl_node.specs.Machine.{NodeMachineState, IsNodeMachine, endpoint_in, first_machine, is_node_busy, AreStored};
+ghost use Rattle.cl_node.specs.Machine.{NodeFits, NodeMachineState, IsNodeMachine, endpoint_in, first_machine, is_node_busy, AreStored};
 ghost use Rattle.cl_node.specs.Node.{replica_at};
+ghost use Rattle.cl_post.specs.Steps.{handle};
 ghost use Rattle.cl_roster.specs.Roster.{IsClusterSize};
+ghost use Rattle.cl_wire.specs.Message.{message_of};
 
 use crate::NodeCore;
 use cl_actor::Acting;
-use cl_endpoint::Endpoint;
+use cl_endpoint::{ACTORS, Endpoint, Received};
 use cl_post::{Machine, OutList, Outs};
+use cl_roster::rosters_are_lawful;
 use cl_store::Store;
 use cl_types::{NoMemory, Refused};
 use cl_vnode::Vnode;
@@ -36,6 +39,23 @@ impl Node {
         Ok(Node {
             acting: Acting::new(alloc, core, endpoint),
         })
+    }
+
+    /// Whether the node can handle the packet now. A caller that keeps to the order need not ask.
+    pub fn admits(&self, packet: &Packet) -> bool
+        ensures { IsTrue result → (before : NodeMachineState) × IsNodeMachine self.now before × NodeFits before (handle (message_of packet.now)) }
+    {
+        if packet.from as usize >= ACTORS {
+            return false;
+        }
+        match self.acting.received(packet) {
+            Received::Now => {
+                let roster = self.acting.roster();
+                rosters_are_lawful(roster);
+                self.acting.core().admits(roster, packet.from, &packet.body)
+            }
+            _ => true,
+        }
     }
 
     /// Whether a message of the node is unsent or unacknowledged.

@@ -6,9 +6,11 @@ ghost use Rattle.cl_node.specs.Slot.{IsReplicaAt};
 ghost use Rattle.cl_types.specs.Placement.{IsNodeCount};
 ghost use Rattle.cl_roster.specs.declared.limits.TheConstants.{VIRTUAL_NODES_MAX};
 
-use crate::slot::is_any_busy;
-use cl_roster::VIRTUAL_NODES_MAX;
+use crate::addressing::addressed;
+use crate::slot::{admits as slot_admits, is_any_busy};
+use cl_roster::{Roster, VIRTUAL_NODES_MAX};
 use cl_vnode::Vnode;
+use cl_wire::Body;
 use std::alloc::Global;
 
 /// The core of a node: a replica of each virtual node of which it is a member.
@@ -35,9 +37,11 @@ fn first_replicas(alloc: Global, me: u32, nodes: u32) -> [Option<Vnode>; VIRTUAL
 }
 
 impl NodeCore {
-    ghost use Rattle.std.specs.Prelude.{◌≡◌, option_copied};
-    ghost use Rattle.cl_node.specs.Node.{NodeState, is_any_busy, replica_at};
+    ghost use Rattle.std.specs.Prelude.{◌≡◌, IsTrue, option_copied};
+    ghost use Rattle.cl_actor.specs.Core.{noted_of};
+    ghost use Rattle.cl_node.specs.Node.{DeliveryFits, NodeState, is_any_busy, replica_at};
     ghost use Rattle.cl_node.specs.NodeCore.{IsNodeState};
+    ghost use Rattle.cl_wire.specs.Message.{content_of};
 
     /// The core of the node `me` at the start of a cluster of so many nodes: a node is the primary of the virtual node of its
     /// own number, which has no standby, and a spare is no member. It allocates nothing.
@@ -60,6 +64,20 @@ impl NodeCore {
             return None;
         }
         self.replicas[index].as_ref()
+    }
+
+    /// Whether the message fits: the node has the replica that it is for, where it may come now.
+    pub(crate) fn admits(&self, roster: &Roster, from: u32, body: &Body) -> bool
+        ensures { IsTrue result → (before : NodeState) × IsNodeState self.now before × DeliveryFits (noted_of roster.now) before from (content_of body.now) }
+    {
+        let Some(v) = addressed(roster.nodes(), body) else {
+            return false;
+        };
+        let index = v as usize;
+        if index >= VIRTUAL_NODES_MAX {
+            return false;
+        }
+        slot_admits(&self.replicas[index], roster, body)
     }
 
     /// Whether something is under way at a replica between two steps: a rollback, an inquiry or a repair.

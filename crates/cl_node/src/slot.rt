@@ -1,5 +1,5 @@
 //! The replica of a virtual node, where the node has one.
-ghost use Rattle.std.specs.Prelude.{◌≡◌, Option, Some, IfOk};
+ghost use Rattle.std.specs.Prelude.{◌≡◌, Option, Some, IsTrue, IfOk};
 ghost use Rattle.std.specs.List.{list_any};
 ghost use Rattle.cl_actor.specs.Core.{noted_of};
 ghost use Rattle.cl_node.specs.Node.{is_slot_spent, slot_step};
@@ -32,6 +32,16 @@ pub(crate) fn is_any_busy(slots: &[Option<Vnode>]) -> bool
     ensures { result ≡ list_any is_under_way slots.now }
 {
     slots.iter().any(is_busy)
+}
+
+/// Whether there is a replica, where the message may come now.
+pub(crate) fn admits(slot: &Option<Vnode>, roster: &Roster, body: &Body) -> bool
+    ensures { IsTrue result → (before : ReplicaState) × IsReplicaAt slot.now (Some before) × Fits roster.now.nodes before (content_of body.now) }
+{
+    match slot {
+        Some(replica) => replica.admits(roster, body),
+        None => false,
+    }
 }
 
 /// Hands a message to the replica that it is for.

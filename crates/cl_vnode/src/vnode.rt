@@ -65,8 +65,10 @@ impl Vnode {
     /// Whether the message may come to the virtual node's primary now. A caller that keeps to the
     /// order need not ask.
     pub fn admits(&self, roster: &Roster, body: &Body) -> bool
-        ensures { IsTrue result → (state : ReplicaState) × IsReplicaStateOf self.now state
+        ensures admitted { IsTrue result → (state : ReplicaState) × IsReplicaStateOf self.now state
             × Fits roster.now.nodes state (content_of body.now) }
+        ensures refused { (state : ReplicaState) → IsReplicaStateOf self.now state
+            → Fits roster.now.nodes state (content_of body.now) → IsTrue result }
     {
         roster.nodes() == self.control.nodes() && may_come(&self.control, body)
     }

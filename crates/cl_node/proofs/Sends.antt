@@ -1,0 +1,40 @@
+-- What a node sends goes to actors.
+use Rattle.std.proofs.Common.{◌≡◌, ℕ, ◌<◌, Bool, Option, Some, None, inl, inr, sym, subst, arith}
+use Rattle.std.proofs.lemmas.List.Elements.{All-nil, All-weaker}
+use Rattle.cl_actor.specs.Acting.{SendsToActors}
+use Rattle.cl_actor.specs.Core.{Noted}
+use Rattle.cl_actor.specs.Laws.{IsLawfullyNoted}
+use Rattle.cl_actor.proofs.Primaries.{primary_is_actor}
+use Rattle.cl_endpoint.specs.declared.limits.TheConstants.{ACTORS}
+use Rattle.cl_node.specs.Addressing.{addressed}
+use Rattle.cl_node.specs.Laws.{NodesSendToActors}
+use Rattle.cl_node.specs.Node.{NodeState, replica_at, replica_for, slot_step, delivered_to, delivered_for}
+use Rattle.cl_vnode.specs.Inputs.{Fits}
+use Rattle.cl_vnode.specs.Laws.{IsReceiver}
+use Rattle.cl_vnode.specs.Replica.{ReplicaState}
+use Rattle.cl_vnode.specs.Step as replica
+use Rattle.cl_vnode.proofs.Receivers.{steps_send_to_receivers}
+use Rattle.cl_wire.specs.Message.{Content}
+
+-- to whom a replica sends is an actor
+receiver_is_actor : (noted : Noted) (from to : ℕ) → IsLawfullyNoted noted → from < ACTORS → IsReceiver noted.nodes (replica.primary_in noted.nodes noted.entries) from to → to < ACTORS
+receiver_is_actor noted from to is sender (inl same) = subst (λ n. n < ACTORS) (sym same) sender
+receiver_is_actor noted from to is sender (inr (inl same)) = omega (arith, same)
+receiver_is_actor noted from to is sender (inr (inr (v, within, same))) = subst (λ n. n < ACTORS) (sym same) (primary_is_actor noted v is within)
+
+slot_sends : (noted : Noted) (state : NodeState) (from : ℕ) (content : Content) (mark : Bool) (v : ℕ) (slot : Option ReplicaState) (there : ReplicaState) →
+    IsLawfullyNoted noted → from < ACTORS → slot ≡ Some there → Fits noted.nodes there content → SendsToActors (delivered_to state v (slot_step noted slot from content mark))
+slot_sends noted state from content mark v None there is sender same fits = let none : ◌≡◌ {A = Option ReplicaState} None (Some there) = same in absurd cc
+slot_sends noted state from content mark v (Some here) there is sender same fits =
+    let both : here ≡ there = cc in
+    All-weaker (IsReceiver noted.nodes (replica.primary_in noted.nodes noted.entries) from) (λ to. to < ACTORS)
+    (λ to receiver. receiver_is_actor noted from to is sender receiver) _
+    (steps_send_to_receivers noted.nodes (replica.primary_in noted.nodes noted.entries) here from content mark is.size.counted (subst (λ one. Fits noted.nodes one content) (sym both) fits))
+
+for_sends : (noted : Noted) (state : NodeState) (from : ℕ) (content : Content) (mark : Bool) (to : Option ℕ) (there : ReplicaState) →
+    IsLawfullyNoted noted → from < ACTORS → replica_for state to ≡ Some there → Fits noted.nodes there content → SendsToActors (delivered_for noted state from content mark to)
+for_sends noted state from content mark None there is sender same fits = All-nil _
+for_sends noted state from content mark (Some v) there is sender same fits = slot_sends noted state from content mark v (replica_at state v) there is sender same fits
+
+pub node_sends : NodesSendToActors
+node_sends noted state from content mark is sender fit = for_sends noted state from content mark (addressed noted.nodes content) fit.replica is sender fit.here fit.fits

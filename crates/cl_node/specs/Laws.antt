@@ -1,0 +1,13 @@
+-- The laws of a node.
+use Rattle.std.specs.Prelude.{ℕ, ◌<◌, Bool}
+use Rattle.cl_actor.specs.Acting.{SendsToActors}
+use Rattle.cl_actor.specs.Core.{Noted}
+use Rattle.cl_actor.specs.Laws.{IsLawfullyNoted}
+use Rattle.cl_endpoint.specs.declared.limits.TheConstants.{ACTORS}
+use Rattle.cl_node.specs.Node.{NodeState, DeliveryFits, delivered_node}
+use Rattle.cl_wire.specs.Message.{Content}
+
+-- on a message that fits, of an actor, a node sends to actors alone
+abbrev pub NodesSendToActors : Type 0
+NodesSendToActors = (noted : Noted) (state : NodeState) (from : ℕ) (content : Content) (mark : Bool) →
+    IsLawfullyNoted noted → from < ACTORS → DeliveryFits noted state from content → SendsToActors (delivered_node noted state from content mark)
