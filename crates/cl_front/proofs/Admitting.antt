@@ -1,6 +1,6 @@
 -- A front whose sessions can number their next commands can be fed any line, and hear any outcome.
-use Rattle.std.proofs.Common.{◌≡◌, ℕ, zero, suc, ◌-◌, ◌<◌, All, false, List, [], ◌∷◌, Result, Ok, Err, slice_index_or, subst}
-use Rattle.std.proofs.lemmas.List.Elements.{All-head, All-tail}
+use Rattle.std.proofs.Common.{arith, ◌≡◌, ℕ, zero, suc, ◌+◌, ◌-◌, ◌<◌, All, false, List, [], ◌∷◌, Result, Ok, Err, slice_index_or, subst}
+use Rattle.std.proofs.lemmas.List.Elements.{All-nil, All-cons, All-head, All-tail}
 use Rattle.cl_actor.specs.Acting.{HandlingFits, FeedingFits, noted_in}
 use Rattle.cl_actor.specs.Core.{Noted, noted_of}
 use Rattle.cl_actor.specs.Laws.{IsLawfullyNoted}
@@ -31,6 +31,16 @@ each_ready (session ∷ rest) (suc k) each = each_ready rest k (All-tail (λ (on
 -- so is the session of each number
 pub all_ready : (sessions : List SessionState) → All (λ (session : SessionState). HasNextNumber session.current) sessions → (s : ℕ) → HasNextNumber (session_in sessions s).current
 all_ready sessions each s = each_ready sessions (s - 1) each
+
+each_of : (sessions : List SessionState) → ((k : ℕ) → HasNextNumber (slice_index_or sessions k no_session).current) → All (λ (session : SessionState). HasNextNumber session.current) sessions
+each_of [] each = All-nil (λ (one : SessionState). HasNextNumber one.current)
+each_of (session ∷ rest) each = All-cons (λ (one : SessionState). HasNextNumber one.current) session rest (each 0) (each_of rest (λ k. each (suc k)))
+
+-- and the other way round
+pub ready_all : (state : FrontState) → IsReady state → All (λ (session : SessionState). HasNextNumber session.current) state.sessions
+ready_all state ready = each_of state.sessions (λ k.
+    let P : ℕ → Type 0 = λ index. HasNextNumber (slice_index_or state.sessions index no_session).current in
+    let e : k + 1 - 1 ≡ k = omega arith in subst P e (ready (k + 1)))
 
 -- what a roster's laws say of what was noted
 pub lawfully : (view : RosterView) (endpoint : EndpointState) → noted_of view ≡ noted_in endpoint → IsClusterSize view.nodes view.spares → IsLawfulRoster view.nodes view.spares view.entries →

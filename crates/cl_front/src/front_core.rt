@@ -66,7 +66,8 @@ impl FrontCore {
 
     /// Whether the step before was settled, and the next command of each session can have a number. It asks each session.
     pub(crate) fn is_ready(&self) -> bool
-        ensures { IsTrue result → (state : FrontState) × IsFront self.now state × IsReady state }
+        ensures told { IsTrue result → (state : FrontState) × IsFront self.now state × IsReady state }
+        ensures refused { (state : FrontState) → IsFront self.now state → IsReady state → IsTrue result }
     {
         self.recorder.is_settled() && self.sessions.have_next_numbers()
     }

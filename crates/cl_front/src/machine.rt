@@ -2,6 +2,7 @@
 ghost use Rattle.std.specs.Prelude.{◌≡◌, ◌<◌, ℕ, List, IsTrue, IfOk, OnOk, OnErr};
 ghost use Rattle.cl_endpoint.specs.declared.limits.TheConstants.{ACTORS};
 ghost use Rattle.cl_endpoint.specs.Endpoint.{is_waiting, received, set_number};
+ghost use Rattle.cl_front.specs.FrontCore.{IsReady};
 ghost use Rattle.cl_front.specs.Machine.{FrontFits, FrontMachineState, IsFrontMachine, IsOutcome, first_machine, after_quiet, after_taking, is_machine_answered, printed_by, endpoint_in};
 ghost use Rattle.cl_lines.specs.declared.out.Out.{Out as Printed};
 ghost use Rattle.cl_post.specs.Steps.{handle, feed};
@@ -68,8 +69,9 @@ impl Front {
 
     /// Whether the front can be fed any line now. It asks each session, and a caller that feeds few lines need not ask.
     pub fn admits_lines(&self) -> bool
-        ensures { IsTrue result → (before : FrontMachineState) × IsFrontMachine self.now before
+        ensures admitted { IsTrue result → (before : FrontMachineState) × IsFrontMachine self.now before
             × ((line : ℕ) (text : List ℕ) (said : List Printed) → FrontFits before (feed line text said)) }
+        ensures refused { (state : FrontMachineState) → IsFrontMachine self.now state → IsReady state.core → IsTrue result }
     {
         rosters_are_lawful(self.acting.roster());
         self.acting.core().is_ready()
@@ -77,7 +79,8 @@ impl Front {
 
     /// Whether the front can handle the packet now. It asks each session, and a caller that keeps to the order need not ask.
     pub fn admits(&self, packet: &Packet) -> bool
-        ensures { IsTrue result → (before : FrontMachineState) × IsFrontMachine self.now before × FrontFits before (handle (message_of packet.now)) }
+        ensures admitted { IsTrue result → (before : FrontMachineState) × IsFrontMachine self.now before × FrontFits before (handle (message_of packet.now)) }
+        ensures refused { (state : FrontMachineState) → IsFrontMachine self.now state → IsReady state.core → FrontFits state (handle (message_of packet.now)) → IsTrue result }
     {
         rosters_are_lawful(self.acting.roster());
         if packet.from as usize >= ACTORS {
@@ -89,7 +92,8 @@ impl Front {
     // Whether the packet is an outcome, where it would be accepted now.
     fn expects_outcome(&self, packet: &Packet) -> bool
         requires { packet.now.from < ACTORS }
-        ensures { IsTrue result → received (endpoint_in self.now) packet.now.from packet.now.seq ≡ Received.Now → IsOutcome (content_of packet.now.body) }
+        ensures told { IsTrue result → received (endpoint_in self.now) packet.now.from packet.now.seq ≡ Received.Now → IsOutcome (content_of packet.now.body) }
+        ensures refused { (received (endpoint_in self.now) packet.now.from packet.now.seq ≡ Received.Now → IsOutcome (content_of packet.now.body)) → IsTrue result }
     {
         self.acting.received(packet) != Received::Now || matches!(packet.body, Body::Outcome(..))
     }

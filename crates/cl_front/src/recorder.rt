@@ -1,5 +1,5 @@
 //! The transcript, and what the last step printed.
-ghost use Rattle.std.specs.Prelude.{◌≡◌, [], ◌∷◌, ◌++◌, IsTrue, IfOk, OnOk, OnErr};
+ghost use Rattle.std.specs.Prelude.{◌≡◌, ◌↔◌, [], ◌∷◌, ◌++◌, IsTrue, IfOk, OnOk, OnErr};
 ghost use Rattle.cl_serial.specs.Transcript.{transcript_entry, transcript_of};
 
 use cl_serial::{Said, Transcript};
@@ -66,7 +66,7 @@ impl Recorder {
 
     /// Whether nothing is kept aside.
     pub(crate) fn is_settled(&self) -> bool
-        ensures { IsTrue result → self.now.aside ≡ [] }
+        ensures { IsTrue result ↔ (self.now.aside ≡ []) }
     {
         self.aside.is_empty()
     }

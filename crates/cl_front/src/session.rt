@@ -196,7 +196,8 @@ impl Session {
 
     /// Whether the next command of the transaction can have a number.
     pub(crate) fn has_next_number(&self) -> bool
-        ensures { IsTrue result → HasNextNumber self.now.current }
+        ensures told { IsTrue result → HasNextNumber self.now.current }
+        ensures refused { HasNextNumber self.now.current → IsTrue result }
     {
         match self.current {
             Some(current) => current.commands < u32::MAX,

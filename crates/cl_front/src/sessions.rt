@@ -73,7 +73,8 @@ impl Sessions {
 
     /// Whether the next command of each session can have a number. It asks each.
     pub(crate) fn have_next_numbers(&self) -> bool
-        ensures { IsTrue result → All (λ session. HasNextNumber session.current) self.now }
+        ensures told { IsTrue result → All (λ session. HasNextNumber session.current) self.now }
+        ensures refused { All (λ session. HasNextNumber session.current) self.now → IsTrue result }
     {
         self.sessions
             .iter()

@@ -5,9 +5,9 @@ use Rattle.cl_front.specs.FrontCore.{IsFront}
 use Rattle.cl_front.proofs.Admitting.{feeding_fits, lawfully}
 use Rattle.cl_front.proofs.machine.Front.admits_lines.Goals as goal
 
-pub returns : goal.returns
-returns c is =
-    let core = c.is_ready.ensures is in
+pub returns-clause-admitted : goal.returns-clause-admitted
+returns-clause-admitted c is =
+    let core = c.is_ready.ensures.told is in
     let before : FrontMachineState = record { core = core.0; endpoint = endpoint_in c.args.self.now } in (
       before,
       (subst (λ one. IsFront one core.0) c.core.ensures core.1, refl),
