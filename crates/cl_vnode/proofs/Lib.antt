@@ -3,4 +3,5 @@ pub mod Controller
 pub mod Keeping
 pub mod Performing
 pub mod Receivers
+pub mod States
 pub mod Telling

@@ -9,6 +9,10 @@ use Rattle.cl_vnode.specs.Inputs.{Fits}
 use Rattle.cl_vnode.specs.Replica.{ReplicaState, IsReplicaStateOf}
 use Rattle.cl_vnode.specs.Step.{stepped}
 
+-- each replica has a state
+abbrev pub EveryReplicaHasState : Type 0
+EveryReplicaHasState = (vnode : Vnode) → (state : ReplicaState) × IsReplicaStateOf vnode state
+
 -- what no step changes: the virtual node, how many nodes there are, and the mode
 pub record IsSameReplica (before after : ReplicaState) : Type 0 where
   pub v : after.v ≡ before.v

@@ -1,5 +1,10 @@
-//! What holds of every step. Each function does nothing: its contract is a law.
-ghost use Rattle.cl_vnode.specs.Laws.{MarksAreAlike, StepsKeepReplica, StepsSendToReceivers};
+//! What holds of every replica and of every step. Each function does nothing: its contract is a law.
+ghost use Rattle.cl_vnode.specs.Laws.{EveryReplicaHasState, MarksAreAlike, StepsKeepReplica, StepsSendToReceivers};
+
+/// Each replica has a state: a participant, a controller and a mode as data.
+pub fn every_replica_has_state()
+    ensures { EveryReplicaHasState }
+{}
 
 /// A step changes neither the virtual node of its replica, nor how many nodes there are, nor the mode.
 pub fn steps_keep_replica()

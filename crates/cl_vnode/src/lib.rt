@@ -9,6 +9,6 @@ mod participant;
 mod sending;
 mod vnode;
 
-pub use laws::{steps_keep_replica, steps_send_to_receivers};
+pub use laws::{every_replica_has_state, steps_keep_replica, steps_send_to_receivers};
 pub use mode::Mode;
 pub use vnode::Vnode;
