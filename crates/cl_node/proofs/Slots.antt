@@ -9,7 +9,6 @@ use Rattle.cl_node.specs.Addressing.{addressed}
 use Rattle.cl_node.specs.Node.{NodeState, no_replicas, first_node, replica_at, slot_step, is_slot_spent, delivered_for, delivered_node, is_delivery_spent, replica_for, unmoved, DeliveryFits}
 use Rattle.cl_node.specs.Slot.{IsReplicaAt, is_under_way}
 use Rattle.cl_node.specs.Marks.{slots_at}
-use Rattle.cl_part.proofs.States.{every_part_has_state}
 use Rattle.cl_post.specs.Steps.{IsSpentWhere}
 use Rattle.cl_roster.specs.declared.limits.TheConstants.{VIRTUAL_NODES_MAX}
 use Rattle.cl_steps.specs.declared.steps.Steps.{Steps}
@@ -21,6 +20,7 @@ use Rattle.cl_vnode.specs.Inputs as inputs
 use Rattle.cl_vnode.specs.Inputs.{Fits, is_spent}
 use Rattle.cl_vnode.specs.Replica.{ReplicaState, first_replica, IsReplicaStateOf, is_busy, is_lasting}
 use Rattle.cl_vnode.specs.Step.{primary_in, stepped}
+use Rattle.cl_vnode.proofs.States.{every_replica_has_state}
 use Rattle.cl_wire.specs.Message.{Content}
 
 -- ---- one replica
@@ -127,6 +127,23 @@ module _ (noted : Noted) (vnodes : List (Option Vnode)) (state : NodeState) (fro
       let here : replica_at state v ≡ Some fit.replica = sym (ap (replica_for state) for) ∙ fit.here in
       (fit.replica, subst (λ (replica : Option ReplicaState). IsReplicaAt slot replica) here is, fit.fits)
 
+  -- what is so where the message fits the replica that is there is so where it fits the node
+  pub where_it_fits : {P : Type 0} (slot : Option Vnode) → ((replica : ReplicaState) → IsReplicaAt slot (Some replica) → Fits noted.nodes replica content → P) →
+      IsReplicaAt slot (replica_at state v) → DeliveryFits noted state from content → P
+  where_it_fits slot told is fit = let there = fits_there slot is fit in told there.0 there.1 there.2
+
+  -- none fits that is for a virtual node that is not there
+  pub nothing_fits_beyond : length vnodes ≤ v → DeliveryFits noted state from content → ⊥
+  nothing_fits_beyond beyond fit =
+      let same : ◌≡◌ {A = Option ReplicaState} None (Some fit.replica) =
+      sym (none_beyond vnodes state.replicas v are beyond).0 ∙ sym (ap (replica_for state) for) ∙ fit.here in
+      absurd cc
+
+-- none fits that is for no virtual node
+pub nothing_fits_for_none : (noted : Noted) (state : NodeState) (from : ℕ) (content : Content) → addressed noted.nodes content ≡ None → DeliveryFits noted state from content → ⊥
+nothing_fits_for_none noted state from content for fit =
+    let same : ◌≡◌ {A = Option ReplicaState} None (Some fit.replica) = sym (ap (replica_for state) for) ∙ fit.here in absurd cc
+
 -- ---- the first replicas
 
 length_either : (b : Bool) (me : ℕ) (replica : Option ReplicaState) → length (if b then slice_set no_replicas me replica else no_replicas) ≡ VIRTUAL_NODES_MAX
@@ -142,9 +159,7 @@ first_counted vnodes nodes me are =
 
 replica_has_state : (slot : Option Vnode) → (replica : Option ReplicaState) × IsReplicaAt slot replica
 replica_has_state None = (None, tt)
-replica_has_state (Some vnode) =
-    let part = every_part_has_state vnode.part in
-    (Some (record { v = vnode.v; part = part.0; control = vnode.control; mode = vnode.mode }), record { v = refl; part = part.1; control = refl; mode = refl })
+replica_has_state (Some vnode) = let state = every_replica_has_state vnode in (Some state.0, state.1)
 
 -- the replicas have a state
 pub node_has_state : (vnodes : List (Option Vnode)) → (state : NodeState) × AllZip IsReplicaAt vnodes state.replicas

@@ -8,6 +8,6 @@ mod machine;
 mod node_core;
 mod slot;
 
-pub use laws::nodes_send_to_actors;
+pub use laws::{every_node_has_state, nodes_send_to_actors};
 pub use machine::Node;
 pub use node_core::NodeCore;

@@ -43,7 +43,8 @@ impl Node {
 
     /// Whether the node can handle the packet now. A caller that keeps to the order need not ask.
     pub fn admits(&self, packet: &Packet) -> bool
-        ensures { IsTrue result → (before : NodeMachineState) × IsNodeMachine self.now before × NodeFits before (handle (message_of packet.now)) }
+        ensures admitted { IsTrue result → (before : NodeMachineState) × IsNodeMachine self.now before × NodeFits before (handle (message_of packet.now)) }
+        ensures refused { (state : NodeMachineState) → IsNodeMachine self.now state → NodeFits state (handle (message_of packet.now)) → IsTrue result }
     {
         if packet.from as usize >= ACTORS {
             return false;

@@ -68,7 +68,8 @@ impl NodeCore {
 
     /// Whether the message fits: the node has the replica that it is for, where it may come now.
     pub(crate) fn admits(&self, roster: &Roster, from: u32, body: &Body) -> bool
-        ensures { IsTrue result → (before : NodeState) × IsNodeState self.now before × DeliveryFits (noted_of roster.now) before from (content_of body.now) }
+        ensures admitted { IsTrue result → (before : NodeState) × IsNodeState self.now before × DeliveryFits (noted_of roster.now) before from (content_of body.now) }
+        ensures refused { (state : NodeState) → IsNodeState self.now state → DeliveryFits (noted_of roster.now) state from (content_of body.now) → IsTrue result }
     {
         let Some(v) = addressed(roster.nodes(), body) else {
             return false;

@@ -36,7 +36,8 @@ pub(crate) fn is_any_busy(slots: &[Option<Vnode>]) -> bool
 
 /// Whether there is a replica, where the message may come now.
 pub(crate) fn admits(slot: &Option<Vnode>, roster: &Roster, body: &Body) -> bool
-    ensures { IsTrue result → (before : ReplicaState) × IsReplicaAt slot.now (Some before) × Fits roster.now.nodes before (content_of body.now) }
+    ensures admitted { IsTrue result → (before : ReplicaState) × IsReplicaAt slot.now (Some before) × Fits roster.now.nodes before (content_of body.now) }
+    ensures refused { (before : ReplicaState) → IsReplicaAt slot.now (Some before) → Fits roster.now.nodes before (content_of body.now) → IsTrue result }
 {
     match slot {
         Some(replica) => replica.admits(roster, body),
