@@ -2,7 +2,8 @@
 use Rattle.std.proofs.Common.{◌≡◌, ℕ, suc, zero, ◌+◌, ◌-◌, ◌<◌, ◌≤◌, List, [], ◌∷◌, ◌++◌, length, replicate, Option, Some, None, refl, ap, ◌∙◌, sym, arith, length-append, append_assoc, set}
 use Rattle.std.proofs.lemmas.List.{length-replicate, replicate-append-replicate, length-set, set-append_left}
 use Rattle.std.proofs.Math.ListN.{get_or-append}
-use Rattle.std.specs.Prelude.{slice_get}
+use Rattle.std.specs.Prelude.{slice_get, unwrap_or}
+use Rattle.std.specs.Option.{option_map}
 use Rattle.cl_ranked.specs.Slots.{kept, kept_from, slot_at}
 
 module _ {T : Type 0} where
@@ -90,6 +91,29 @@ module _ {T : Type 0} where
   set-right (x ∷ xs) ys (suc index) h =
       let e : index - length xs ≡ suc index - suc (length xs) = omega arith in
       ap (λ rest. x ∷ rest) (set-right xs ys index (omega arith) ∙ ap (λ n. xs ++ set ys n None) e)
+
+  -- an item that is kept is in the slot of its index
+  pub kept_from-slot : (slots : List (Option T)) (first rank index : ℕ) (item : T) → slice_get (kept_from first slots) rank ≡ Some (index, item) → (first ≤ index) × (slot_at slots (index - first) ≡ Some item)
+  unfolding kept_from
+  kept_from-slot [] first rank index item e = cc
+  kept_from-slot (None ∷ slots) first rank index item e =
+      let (after, at) = kept_from-slot slots (suc first) rank index item e in
+      let more : index - first ≡ suc (index - suc first) = omega arith in
+      (omega arith, ap (slot_at (None ∷ slots)) more ∙ at)
+  kept_from-slot (Some x ∷ slots) first zero index item e =
+      let same : first ≡ index = ap (λ o. (unwrap_or {T = ℕ × T} o (first, x)).0) e in
+      let none : index - first ≡ 0 = omega arith in
+      (omega arith, ap (slot_at (Some x ∷ slots)) none ∙ ap (option_map (λ pair. pair.1)) e)
+  kept_from-slot (Some x ∷ slots) first (suc rank) index item e =
+      let (after, at) = kept_from-slot slots (suc first) rank index item e in
+      let more : index - first ≡ suc (index - suc first) = omega arith in
+      (omega arith, ap (slot_at (Some x ∷ slots)) more ∙ at)
+
+  -- the same, where the first slot has index 0
+  pub kept-slot : (slots : List (Option T)) (rank index : ℕ) (item : T) → slice_get (kept slots) rank ≡ Some (index, item) → slot_at slots index ≡ Some item
+  kept-slot slots rank index item e =
+      let whole : index - 0 ≡ index = omega arith in
+      sym (ap (slot_at slots) whole) ∙ (kept_from-slot slots 0 rank index item e).1
 
 module _ {X : Type 0} where
   -- an element of the first part

@@ -13,9 +13,13 @@ use std::marker::Model;
 /// The most slots that a store can have.
 pub const SLOTS_MAX: u64 = u64::MAX;
 
-/// Numbered slots, each with an item or empty, which are added at the end alone.
+/// Numbered slots, each with an item or empty. They are added at the end alone.
 ///
-/// Contracts see the slots by index, from 0: of each item that was ever added, what is there.
+/// Contracts see the slots by index, from 0: of each item that was ever added, the item, or nothing once it was taken.
+///
+/// The items stand in a tree without the empty slots in front of the first item. A path in it has at most twice as many
+/// forks as the number of its slots has binary digits, so each call takes logarithmic time. Memory goes with the items:
+/// an item has an allocation of its own, and one for each fork that leads to it.
 #[derive(Debug, Drop)]
 pub struct Ranked<T> {
     alloc: Global,
@@ -48,7 +52,7 @@ impl<T> Ranked<T> {
         }
     }
 
-    /// Adds a slot with an item, or an empty one. After an error the item is dropped, and the slots are as before.
+    /// Adds a slot at the end, with an item or empty. After an error the item is dropped, and the slots are as before.
     pub fn add(&mut self, item: Option<T>) -> Result<(), NoMemory>
     where
         T: Drop,
@@ -65,14 +69,14 @@ impl<T> Ranked<T> {
         Ok(())
     }
 
-    /// The item in a slot.
+    /// The item in the slot of an index. It is `None` where the slot is empty, and past the last slot.
     pub fn get(&self, index: u64) -> Option<&T>
         ensures { option_copied result ≡ slot_at self.now index }
     {
         self.tree.get(index.checked_sub(self.base)?)
     }
 
-    /// Takes the item out of a slot, which is empty from then on. It takes no memory.
+    /// Takes the item out of the slot of an index, which is empty from then on. It cannot fail, and allocates nothing.
     pub fn take(&mut self, index: u64) -> Option<T>
     where
         T: Drop,

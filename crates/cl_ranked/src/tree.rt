@@ -108,7 +108,7 @@ impl<T> Tree<T> {
         }
     }
 
-    // Puts the slots of another tree behind its own. After an error it is as it was.
+    // Becomes a fork of itself and another tree. After an error it is as it was.
     fn join(&mut self, alloc: Global, other: Tree<T>) -> Result<(), NoMemory>
     where
         T: Drop,
@@ -139,7 +139,8 @@ impl<T> Tree<T> {
         Ok(())
     }
 
-    // Puts the slots of another tree behind its own, so that no path gets long. After an error it is as it was.
+    // Puts the one slot of another tree behind its own. It goes into the right part until that is as wide as the left one,
+    // so that no path gets long. After an error the tree is as it was.
     pub(crate) fn append(&mut self, alloc: Global, other: Tree<T>) -> Result<(), NoMemory>
     where
         T: Drop,
@@ -206,7 +207,7 @@ impl<T> Tree<T> {
         Some(Box::into_inner(item))
     }
 
-    // Lets go of a tree with no items.
+    // Lets go of the memory of a tree with no items.
     fn prune(&mut self)
     where
         T: Drop,
@@ -219,7 +220,8 @@ impl<T> Tree<T> {
         }
     }
 
-    // Takes the tree's empty slots off its front, as far as it costs nothing, and returns their number.
+    // Takes left parts without an item off the front, and returns how many slots they had. So the tree stays as high as
+    // what is kept needs, and not what was ever added.
     pub(crate) fn trim(&mut self) -> u64
     where
         T: Drop,
