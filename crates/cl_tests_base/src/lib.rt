@@ -1,5 +1,5 @@
-//! Tests of types, ends, lines, the plain map, lists, links and rosters through their public calls, a module for each
-//! crate.
+//! Tests of types, ends, lines, the plain map, lists, links, rosters and ranked stores through their public calls,
+//! a module for each crate.
 #![tactic(auto)]
 
 #[cfg(test)]
@@ -10,6 +10,8 @@ mod lines;
 mod link;
 #[cfg(test)]
 mod lists;
+#[cfg(test)]
+mod ranked;
 #[cfg(test)]
 mod roster;
 #[cfg(test)]
