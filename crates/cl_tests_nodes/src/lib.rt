@@ -2,6 +2,8 @@
 #![tactic(auto)]
 
 #[cfg(test)]
+mod cluster;
+#[cfg(test)]
 mod endpoint;
 #[cfg(test)]
 mod front;
