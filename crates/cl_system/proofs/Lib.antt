@@ -1,0 +1,6 @@
+pub mod Sends
+pub mod Controls
+pub mod ReplicaSends
+pub mod Places
+pub mod Nodes
+pub mod Alike

@@ -1,0 +1,4 @@
+pub mod System
+pub mod Replicas
+pub mod Roles
+pub mod Laws
