@@ -8,4 +8,6 @@ mod endpoint;
 #[cfg(test)]
 mod front;
 #[cfg(test)]
+mod primaries;
+#[cfg(test)]
 mod vnode;
