@@ -1,0 +1,16 @@
+pub mod Turns
+pub mod Opens
+pub mod Told
+pub mod Views
+pub mod Changes
+pub mod Holding
+pub mod Commands
+pub mod Replies
+pub mod Participants
+pub mod Delivered
+pub mod Fronts
+pub mod Resting
+pub mod Heard
+pub mod Events
+pub mod Inputs
+pub mod Runs
