@@ -1,0 +1,9 @@
+mod Keeping
+mod Reaching
+mod Ending
+mod Entries
+mod Worlds
+mod Standings
+mod Fronts
+mod Messages
+mod Events

@@ -1,0 +1,32 @@
+-- What holds of the ledger of the system: one serial order.
+use Rattle.std.specs.Prelude.{◌≡◌}
+use Rattle.cl_commit.specs.Life.{CommitsWhole}
+use Rattle.cl_exchange.specs.Laws.{IsSoundWorld}
+use Rattle.cl_log.specs.Settled.{settled}
+use Rattle.cl_order.specs.Ledger.{Ledger, values_of}
+use Rattle.cl_order.specs.Steps.{AreEnabled, after_steps}
+use Rattle.cl_roster.specs.Roster.{IsClusterSize}
+use Rattle.cl_runs.specs.Queues.{QueueEvent}
+use Rattle.cl_runs.specs.World.{Shape}
+use Rattle.cl_system.specs.Replicas.{ReplicaWorld, after_replica_event, first_replica_world, MayReplicas}
+use Rattle.cl_types.specs.Places.{Place}
+use Rattle.cl_ledger.specs.Ledgers.{event_steps, first_both, place_on, IsLedgerOf}
+
+-- at the start the ledger is empty
+abbrev pub LedgerAtFirst : Type 0
+LedgerAtFirst = (shape : Shape) → IsClusterSize shape.nodes shape.spares → IsLedgerOf shape (first_replica_world shape) (first_both shape).ledger
+
+-- an event is steps that are enabled, and the ledger after them is that of the system after it
+pub record FollowsEvent (shape : Shape) (world : ReplicaWorld) (ledger : Ledger) (event : QueueEvent) : Type 0 where
+  pub enabled : AreEnabled ledger (event_steps world event)
+  pub after : IsLedgerOf shape (after_replica_event shape world event) (after_steps ledger (event_steps world event))
+
+-- so is each event that may happen
+abbrev pub EventsAreSteps : Type 0
+EventsAreSteps = (shape : Shape) (world : ReplicaWorld) (ledger : Ledger) (event : QueueEvent) → IsClusterSize shape.nodes shape.spares →
+    IsSoundWorld shape world → CommitsWhole shape world → IsLedgerOf shape world ledger → MayReplicas world event → FollowsEvent shape world ledger event
+
+-- the log of each virtual node settles to the map of the history
+abbrev pub LogsSettle : Type 0
+LogsSettle = (shape : Shape) (world : ReplicaWorld) (ledger : Ledger) (place : Place) → IsClusterSize shape.nodes shape.spares → IsLedgerOf shape world ledger →
+    settled (world.replicas (place_on shape.nodes place)).part.log world.history place ≡ values_of ledger place
