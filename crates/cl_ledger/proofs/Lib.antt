@@ -7,3 +7,4 @@ mod Standings
 mod Fronts
 mod Messages
 mod Events
+mod Runs

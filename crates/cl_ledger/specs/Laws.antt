@@ -1,16 +1,17 @@
 -- What holds of the ledger of the system: one serial order.
-use Rattle.std.specs.Prelude.{◌≡◌}
+use Rattle.std.specs.Prelude.{◌≡◌, List}
 use Rattle.cl_commit.specs.Life.{CommitsWhole}
 use Rattle.cl_exchange.specs.Laws.{IsSoundWorld}
 use Rattle.cl_log.specs.Settled.{settled}
 use Rattle.cl_order.specs.Ledger.{Ledger, values_of}
 use Rattle.cl_order.specs.Steps.{AreEnabled, after_steps}
 use Rattle.cl_roster.specs.Roster.{IsClusterSize}
-use Rattle.cl_runs.specs.Queues.{QueueEvent}
-use Rattle.cl_runs.specs.World.{Shape}
-use Rattle.cl_system.specs.Replicas.{ReplicaWorld, after_replica_event, first_replica_world, MayReplicas}
+use Rattle.cl_runs.specs.Queues.{QueueEvent, queue_events_of}
+use Rattle.cl_runs.specs.World.{Shape, Run, IsWideRun}
+use Rattle.cl_system.specs.Replicas.{ReplicaWorld, after_replica_event, first_replica_world, replica_world_after, MayReplicas}
+use Rattle.cl_system.specs.System.{system}
 use Rattle.cl_types.specs.Places.{Place}
-use Rattle.cl_ledger.specs.Ledgers.{event_steps, first_both, place_on, IsLedgerOf}
+use Rattle.cl_ledger.specs.Ledgers.{event_steps, first_both, both_after, place_on, IsLedgerOf}
 
 -- at the start the ledger is empty
 abbrev pub LedgerAtFirst : Type 0
@@ -30,3 +31,20 @@ EventsAreSteps = (shape : Shape) (world : ReplicaWorld) (ledger : Ledger) (event
 abbrev pub LogsSettle : Type 0
 LogsSettle = (shape : Shape) (world : ReplicaWorld) (ledger : Ledger) (place : Place) → IsClusterSize shape.nodes shape.spares → IsLedgerOf shape world ledger →
     settled (world.replicas (place_on shape.nodes place)).part.log world.history place ≡ values_of ledger place
+
+-- what a run is for cores and queues
+abbrev pub events_in : Shape → Run → List QueueEvent
+events_in shape run = queue_events_of (system shape.nodes) shape run
+
+-- a run of the system has a ledger, its commits are whole, and the ledger is in one serial order
+pub record IsOrderedRun (shape : Shape) (run : Run) : Type 0 where
+  -- the ledger grows beside the system
+  pub beside : (both_after shape (events_in shape run)).world ≡ replica_world_after shape (events_in shape run)
+  -- each transaction lives, and stands at each virtual node accordingly
+  pub commits : CommitsWhole shape (replica_world_after shape (events_in shape run))
+  -- the ledger is that of the system
+  pub ledger : IsLedgerOf shape (replica_world_after shape (events_in shape run)) (both_after shape (events_in shape run)).ledger
+
+-- so is each wide run
+abbrev pub RunsKeepOneOrder : Type 0
+RunsKeepOneOrder = (shape : Shape) (run : Run) → IsClusterSize shape.nodes shape.spares → IsWideRun (system shape.nodes) shape run → IsOrderedRun shape run
