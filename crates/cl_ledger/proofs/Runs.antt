@@ -1,12 +1,12 @@
 -- Every run, by induction over its events.
-use Rattle.std.proofs.Common.{◌≡◌, List, [], ◌∷◌, refl, sym, subst}
+use Rattle.std.proofs.Common.{◌≡◌, List, [], ◌∷◌, refl, subst}
 use Rattle.std.specs.List.{fold}
 use Rattle.cl_commit.proofs.Events.{whole_at_first, events_keep_whole}
 use Rattle.cl_commit.specs.Life.{CommitsWhole}
 use Rattle.cl_exchange.proofs.Runs.{sound_at_first, events_fit, events_keep_sound}
 use Rattle.cl_exchange.specs.Laws.{IsSoundWorld}
 use Rattle.cl_ledger.proofs.Events.{ledger_at_first, events_are_steps}
-use Rattle.cl_ledger.specs.Laws.{events_in, IsOrderedRun, RunsKeepOneOrder}
+use Rattle.cl_ledger.specs.Laws.{events_in, RunsKeepOneOrder}
 use Rattle.cl_ledger.specs.Ledgers.{Ledgered, after_both, first_both, both_after, IsLedgerOf}
 use Rattle.cl_lone.proofs.Lone.{calm_steps_are_lone}
 use Rattle.cl_roster.specs.Roster.{IsClusterSize}
