@@ -1,0 +1,108 @@
+-- What an actor sends in an event stands at the ends of its ways after it, and whom it sends to does not depend on memory.
+use Rattle.std.proofs.Common.{◌≡◌, ℕ, Bool, true, false, cond, eqb, List, [], ◌∷◌, ◌++◌, map, All, refl, subst, ltb}
+use Rattle.std.proofs.lemmas.Bool.{cond_both, eq-eqb}
+use Rattle.std.proofs.lemmas.List.Elements.{All-nil}
+use Rattle.cl_endpoint.specs.declared.limits.TheConstants.{ACTORS}
+use Rattle.cl_front.specs.Front.{delivered_front}
+use Rattle.cl_lone.specs.Lone.{lone_step}
+use Rattle.cl_ranges.proofs.Events.{All-behind}
+use Rattle.cl_ranges.proofs.Steps.{message_step, first_step, event_step}
+use Rattle.cl_runs.specs.Queues.{sent_to, QueueEvent, deliver, take_line, quieten, nothing}
+use Rattle.cl_runs.specs.World.{Shape}
+use Rattle.cl_steps.specs.Steps.{Step}
+use Rattle.cl_steps.specs.declared.actors.TheConstants.{FRONT}
+use Rattle.cl_steps.specs.declared.steps.Outgoing.{Outgoing}
+use Rattle.cl_system.specs.Replicas.{ReplicaWorld, own_primary, nothing_noted, with_way, front_acts, replica_acts, after_message, after_first, after_replica_event}
+use Rattle.cl_types.specs.declared.operations.Op.{Op}
+use Rattle.cl_types.specs.declared.operations.TxnId.{TxnId}
+use Rattle.cl_types.specs.Places.{Place}
+use Rattle.cl_vnode.specs.Replica.{ReplicaState}
+use Rattle.cl_vnode.specs.Step.{started, asked}
+use Rattle.cl_wire.specs.Message.{Content, Bare, Command, Outcome, Ask, Answer, Prepare, Vote, Finish, Inquire, Decision, Log, LogAck, Repair, Records, Names, CopyAck}
+
+-- who acts in an event, where anybody sends anything
+abbrev pub IsActing : QueueEvent → ℕ → Type 0
+IsActing (deliver from to mark) me = to ≡ me
+IsActing (take_line number text said) me = FRONT ≡ me
+IsActing quieten me = Unit {0}
+IsActing nothing me = Unit {0}
+
+module _ (P : Content → Type 0) where
+  none_to : (to : ℕ) → All P (sent_to to [])
+  none_to to = cond_both (ltb to ACTORS) [] [] (All P) (λ actor. All-nil P) (λ none. All-nil P)
+
+  behind_given : (b : Bool) (xs ys : List Content) → b ≡ true → All P (cond b (xs ++ ys) xs) → All P ys
+  behind_given true xs ys is all = All-behind P xs ys all
+  behind_given false xs ys is all = absurd cc
+
+  -- a message comes to an actor
+  message_behind : (shape : Shape) (world : ReplicaWorld) (from me : ℕ) (content : Content) (mark : Bool) (to : ℕ) →
+      All P ((after_message shape world from me content mark).mail me to) → All P (sent_to to (message_step shape world from me content mark).sends)
+  message_behind shape world from me content mark to =
+      elim (eqb me FRONT) as (λ b. (eqb me FRONT ≡ b) → All P ((cond b (front_acts world (delivered_front (nothing_noted shape) world.front from content mark))
+      (replica_acts world me (lone_step own_primary (world.replicas me) from content mark))).mail me to) →
+      All P (sent_to to (cond b (delivered_front (nothing_noted shape) world.front from content mark).step (lone_step own_primary (world.replicas me) from content mark).step).sends)) [
+        | true ↦ λ here all. behind_given (eqb me FRONT) (world.mail me to) _ here all
+        | false ↦ λ elsewhere all. behind_given (eqb me me) (world.mail me to) _ (eq-eqb me me refl) all
+      ]
+      refl
+
+  first_behind : (shape : Shape) (world : ReplicaWorld) (from me : ℕ) (mark : Bool) (to : ℕ) (contents : List Content) →
+      All P ((after_first shape world from me mark contents).mail me to) → All P (sent_to to (first_step shape world from me mark contents).sends)
+  first_behind shape world from me mark to [] all = none_to to
+  first_behind shape world from me mark to (content ∷ rest) all = message_behind shape (record world { mail = with_way world.mail from me rest }) from me content mark to all
+
+  -- what holds of each on its way holds of what was sent
+  pub sends_behind : (shape : Shape) (world : ReplicaWorld) (event : QueueEvent) (me to : ℕ) → IsActing event me →
+      All P ((after_replica_event shape world event).mail me to) → All P (sent_to to (event_step shape world event).sends)
+  unfolding after_replica_event
+  sends_behind shape world (deliver from actor mark) me to acts all =
+      subst (λ n. All P ((after_first shape world from actor mark (world.mail from actor)).mail n to) → All P (sent_to to (first_step shape world from actor mark (world.mail from actor)).sends)) acts
+      (first_behind shape world from actor mark to (world.mail from actor)) all
+  sends_behind shape world (take_line number text said) me to acts all =
+      subst (λ n. All P ((after_replica_event shape world (take_line number text said)).mail n to) → All P (sent_to to (event_step shape world (take_line number text said)).sends)) acts
+      (All-behind P (world.mail FRONT to) _) all
+  sends_behind shape world quieten me to acts all = none_to to
+  sends_behind shape world nothing me to acts all = none_to to
+
+-- ---- receivers
+
+-- to whom the step sends
+abbrev pub receivers_in : Step → List ℕ
+receivers_in step = map (λ (message : Outgoing). message.to) step.sends
+
+asked_marks : (state : ReplicaState) (from v : ℕ) (txn : TxnId) (number : ℕ) (place : Place) (op : Op) (mark : Bool) →
+    receivers_in (asked (started state) from v txn number place op mark).step ≡ receivers_in (asked (started state) from v txn number place op false).step
+unfolding asked
+asked_marks state from v txn number place op true = refl
+asked_marks state from v txn number place op false = refl
+
+replica_marks : (state : ReplicaState) (from : ℕ) (content : Content) (mark : Bool) → receivers_in (lone_step own_primary state from content mark).step ≡ receivers_in (lone_step own_primary state from content false).step
+unfolding lone_step
+replica_marks state from (Ask v txn number table key op) mark = asked_marks state from v txn number (table, key) op mark
+replica_marks state from Bare mark = refl
+replica_marks state from (Command v txn number asked) mark = refl
+replica_marks state from (Outcome txn number outcome) mark = refl
+replica_marks state from (Answer v txn number answer) mark = refl
+replica_marks state from (Prepare v txn) mark = refl
+replica_marks state from (Vote v txn) mark = refl
+replica_marks state from (Finish v txn commit) mark = refl
+replica_marks state from (Inquire v txn) mark = refl
+replica_marks state from (Decision v txn commit) mark = refl
+replica_marks state from (Log v number entry) mark = refl
+replica_marks state from (LogAck v number) mark = refl
+replica_marks state from (Repair v node) mark = refl
+replica_marks state from (Records v index records) mark = refl
+replica_marks state from (Names v index last low txns) mark = refl
+replica_marks state from (CopyAck v index) mark = refl
+
+-- they are the same whether memory was short or not
+pub first_marks : (shape : Shape) (world : ReplicaWorld) (from to : ℕ) (mark : Bool) (contents : List Content) →
+    receivers_in (first_step shape world from to mark contents) ≡ receivers_in (first_step shape world from to false contents)
+first_marks shape world from to mark [] = refl
+first_marks shape world from to mark (content ∷ rest) =
+    elim (eqb to FRONT) as (λ b. receivers_in (cond b (delivered_front (nothing_noted shape) world.front from content mark).step (lone_step own_primary (world.replicas to) from content mark).step)
+    ≡ receivers_in (cond b (delivered_front (nothing_noted shape) world.front from content false).step (lone_step own_primary (world.replicas to) from content false).step)) [
+      | true ↦ refl
+      | false ↦ replica_marks (world.replicas to) from content mark
+    ]

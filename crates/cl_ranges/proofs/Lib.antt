@@ -1,0 +1,11 @@
+pub mod Parts
+pub mod Controllers
+pub mod Replicas
+pub mod Fronts
+pub mod Numbers
+pub mod Events
+pub mod Steps
+pub mod Firm
+pub mod Given
+pub mod Counts
+pub mod Runs
