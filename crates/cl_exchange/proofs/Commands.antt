@@ -88,7 +88,7 @@ module _ (nodes s : ℕ) (view : SessionView) (current : Current) (state : Repli
       })
 
   -- the participants of the transaction
-  participants_are : (entry : Entry) → view.entries ≡ entry ∷ [] → WaitsForNext s view entry → participants_of state.control (last_begun s view.session) ≡ entry.participants
+  pub participants_are : (entry : Entry) → view.entries ≡ entry ∷ [] → WaitsForNext s view entry → participants_of state.control (last_begun s view.session) ≡ entry.participants
   participants_are entry has waits =
       ap (λ found. option_map_or (λ x. x.participants) found []) (found_one (last_begun s view.session) entry (sym waits.of) state.control view.entries same has)
 

@@ -35,18 +35,18 @@ use Rattle.cl_vnode.specs.Step.{home_of}
 use Rattle.cl_wire.specs.Message.{Content, Command, Outcome, Ask, Answer, Prepare, Vote, Finish}
 
 -- the session of a transaction is one of those that there are
-session_between : (txn : TxnId) → IsOfSession txn → (1 ≤ txn.session) × (txn.session ≤ SESSIONS_MAX)
+pub session_between : (txn : TxnId) → IsOfSession txn → (1 ≤ txn.session) × (txn.session ≤ SESSIONS_MAX)
 session_between txn of = let parts = and_parts _ _ of in (leb-true 1 txn.session parts.0, leb-true txn.session SESSIONS_MAX parts.1)
 
 module _ (shape : Shape) (counted : IsNodeCount shape.nodes) (world : ReplicaWorld) (sound : IsSoundWorld shape world) where
-  nodes_are : (v : ℕ) → v < shape.nodes → (world.replicas v).control.nodes ≡ shape.nodes
+  pub nodes_are : (v : ℕ) → v < shape.nodes → (world.replicas v).control.nodes ≡ shape.nodes
   nodes_are v below = (sound.places.replicas v below).same_nodes
 
   -- the stage of the transaction's session
-  stage_of : (txn : TxnId) → IsOfSession txn → IsAtSome shape.nodes world txn.session
+  pub stage_of : (txn : TxnId) → IsOfSession txn → IsAtSome shape.nodes world txn.session
   stage_of txn of = let between = session_between txn of in sound.stages txn.session between.0 between.1
 
-  below_from : (n m : ℕ) → n ≡ m → m < shape.nodes → n < shape.nodes
+  pub below_from : (n m : ℕ) → n ≡ m → m < shape.nodes → n < shape.nodes
   below_from n m same below = subst (λ k. k < shape.nodes) (sym same) below
 
   -- ---- what comes fits
@@ -109,7 +109,7 @@ module _ (shape : Shape) (counted : IsNodeCount shape.nodes) (world : ReplicaWor
       subst (λ b. IsAtSome shape.nodes (cond b (front_acts (taken_off from to rest) (delivered_front (nothing_noted shape) world.front from content mark))
       (replica_acts (taken_off from to rest) to (lone_step own_primary (world.replicas to) from content mark))) s) (sym (home_apart shape.nodes to counted below).1) at
 
-  few : (n : ℕ) → n < shape.nodes → n < FRONT
+  pub few : (n : ℕ) → n < shape.nodes → n < FRONT
   few n below = let most = (node_count-bounds shape.nodes counted).1 in omega arith
 
   pub message_stages : (from to : ℕ) (content : Content) (rest : List Content) (mark : Bool) → world.mail from to ≡ content ∷ rest → IsAddressed shape.nodes from to content → (s : ℕ) → 1 ≤ s → s ≤ SESSIONS_MAX →

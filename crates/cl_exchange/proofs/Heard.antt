@@ -36,7 +36,7 @@ use Rattle.cl_types.specs.declared.operations.TxnId.{TxnId}
 use Rattle.cl_wire.specs.Message.{Content, Outcome}
 
 -- the turns of any session
-any_turns : (shape : Shape) (t : ℕ) (session : SessionState) → SendsOneAtMost (nothing_noted shape) t session.begun session.current (taken (nothing_noted shape) t session)
+pub any_turns : (shape : Shape) (t : ℕ) (session : SessionState) → SendsOneAtMost (nothing_noted shape) t session.begun session.current (taken (nothing_noted shape) t session)
 any_turns shape t session = by (is_outstanding_in session.current) refl
   where
     by : (busy : Bool) → is_outstanding_in session.current ≡ busy → SendsOneAtMost (nothing_noted shape) t session.begun session.current (taken (nothing_noted shape) t session)
@@ -44,25 +44,25 @@ any_turns shape t session = by (is_outstanding_in session.current) refl
     by false free = turns (nothing_noted shape) t session.waiting session.begun session.current free
 
 module _ (shape : Shape) (counted : IsNodeCount shape.nodes) where
-  home_few : (s : ℕ) → s % shape.nodes < ACTORS
+  pub home_few : (s : ℕ) → s % shape.nodes < ACTORS
   home_few s = let below = home_below shape.nodes s counted in let few = (node_count-bounds shape.nodes counted).1 in omega arith
 
-  apart : (s : ℕ) → eqb (s % shape.nodes) FRONT ≡ false
+  pub apart : (s : ℕ) → eqb (s % shape.nodes) FRONT ≡ false
   apart s = (home_apart shape.nodes (s % shape.nodes) counted (home_below shape.nodes s counted)).1
 
   -- a step that leaves the session and sends nothing of it
-  front_same : (world : ReplicaWorld) (s : ℕ) (step : CoreStep FrontState) → session_in step.state.sessions s ≡ session_in world.front.sessions s →
+  pub front_same : (world : ReplicaWorld) (s : ℕ) (step : CoreStep FrontState) → session_in step.state.sessions s ≡ session_in world.front.sessions s →
       filter (is_of_session s) (sent_to (s % shape.nodes) step.step.sends) ≡ [] → view_of shape.nodes (front_acts world step) s ≡ view_of shape.nodes world s
   front_same world s step kept unsent =
       front_view shape.nodes world s step (apart s)
       ∙ same_parts _ (view_of shape.nodes world s) kept
       (ap (λ more. filter (is_of_session s) (world.mail FRONT (s % shape.nodes)) ++ more) unsent ∙ append-nil (filter (is_of_session s) (world.mail FRONT (s % shape.nodes)))) refl refl
 
-  nothing_of : (s : ℕ) → filter (is_of_session s) (sent_to (s % shape.nodes) []) ≡ []
+  pub nothing_of : (s : ℕ) → filter (is_of_session s) (sent_to (s % shape.nodes) []) ≡ []
   nothing_of s = ap (filter (is_of_session s)) (cond-true _ [] [] (lt-ltb (s % shape.nodes) ACTORS (home_few s)))
 
   -- the turns of another session
-  turns_elsewhere : (world : ReplicaWorld) (state : FrontState) (t s : ℕ) (session : SessionState) (turned : Turned) → state.sessions ≡ world.front.sessions → 1 ≤ t → 1 ≤ s → t ≢ s →
+  pub turns_elsewhere : (world : ReplicaWorld) (state : FrontState) (t s : ℕ) (session : SessionState) (turned : Turned) → state.sessions ≡ world.front.sessions → 1 ≤ t → 1 ≤ s → t ≢ s →
       SendsOneAtMost (nothing_noted shape) t session.begun session.current turned →
       view_of shape.nodes (front_acts world (stepped state t turned)) s ≡ view_of shape.nodes world s
   turns_elsewhere world state t s session turned same from to other sends =
@@ -71,7 +71,7 @@ module _ (shape : Shape) (counted : IsNodeCount shape.nodes) where
       (turns_others shape t session.begun session.current turned (s % shape.nodes) s (λ e. other (sym e)) sends)
 
   -- the own turns
-  turns_here : (world : ReplicaWorld) (state : FrontState) (t : ℕ) (turned : Turned) → length state.sessions ≡ SESSIONS_MAX → 1 ≤ t → t ≤ SESSIONS_MAX →
+  pub turns_here : (world : ReplicaWorld) (state : FrontState) (t : ℕ) (turned : Turned) → length state.sessions ≡ SESSIONS_MAX → 1 ≤ t → t ≤ SESSIONS_MAX →
       view_of shape.nodes (front_acts world (stepped state t turned)) t ≡ turned_view shape t (home_few t) (view_of shape.nodes world t) turned
   turns_here world state t turned many from to =
       front_view shape.nodes world t (stepped state t turned) (apart t)
@@ -81,7 +81,7 @@ module _ (shape : Shape) (counted : IsNodeCount shape.nodes) where
 
   module _ (world : ReplicaWorld) (many : length world.front.sessions ≡ SESSIONS_MAX) (s : ℕ) (from : 1 ≤ s) (to : s ≤ SESSIONS_MAX) (at : IsAtSome shape.nodes world s) where
     -- the world once the line is counted
-    abbrev counted_world : ReplicaWorld
+    abbrev pub counted_world : ReplicaWorld
     counted_world = record world { lines = world.lines + 1 }
 
     own_line : (state : FrontState) (command : ClientCommand) → state.sessions ≡ world.front.sessions → IsAtSome shape.nodes (front_acts counted_world (stepped state s (turns_with (nothing_noted shape) state s command))) s
@@ -141,38 +141,38 @@ awaited sessions txn number current of named numbered inside waits =
 module _ (shape : Shape) (counted : IsNodeCount shape.nodes) (world : ReplicaWorld) (many : length world.front.sessions ≡ SESSIONS_MAX) (txn : TxnId) (of : IsOfSession txn) (number : ℕ) (outcome : CommandOutcome) (rest : List Content)
     (waits : world.mail (txn.session % shape.nodes) FRONT ≡ Outcome txn number outcome ∷ rest) where
   -- the world once the outcome was taken off
-  abbrev taken_off : ReplicaWorld
+  abbrev pub taken_off : ReplicaWorld
   taken_off = record world { mail = with_way world.mail (txn.session % shape.nodes) FRONT rest }
 
-  from_one : (1 ≤ txn.session) × (txn.session ≤ SESSIONS_MAX)
+  pub from_one : (1 ≤ txn.session) × (txn.session ≤ SESSIONS_MAX)
   from_one = let parts = and_parts _ _ of in (leb-true 1 txn.session parts.0, leb-true txn.session SESSIONS_MAX parts.1)
 
   commands_stay : (s : ℕ) → taken_off.mail FRONT (s % shape.nodes) ≡ world.mail FRONT (s % shape.nodes)
   commands_stay s = cond-false _ _ _ (and_left _ _ (apart shape counted s))
 
   -- of another session nothing is taken off
-  taken_others : (s : ℕ) → s ≢ txn.session → view_of shape.nodes taken_off s ≡ view_of shape.nodes world s
+  pub taken_others : (s : ℕ) → s ≢ txn.session → view_of shape.nodes taken_off s ≡ view_of shape.nodes world s
   taken_others s other =
       same_parts _ (view_of shape.nodes world s) refl (ap (filter (is_of_session s)) (commands_stay s)) refl
       (cond_both (eqb (s % shape.nodes) (txn.session % shape.nodes)) rest (world.mail (s % shape.nodes) FRONT) (λ list. filter (is_of_session s) list ≡ filter (is_of_session s) (world.mail (s % shape.nodes) FRONT))
       (λ e. sym (ap (filter (is_of_session s)) (ap (λ n. world.mail n FRONT) (eqb-true (s % shape.nodes) (txn.session % shape.nodes) e) ∙ waits) ∙ cond-false _ _ _ (ne_eqb s txn.session other))) (λ e. refl))
 
   -- of its own session what is left
-  taken_own : view_of shape.nodes taken_off txn.session ≡ record (view_of shape.nodes world txn.session) { outcomes = filter (is_of_session txn.session) rest }
+  pub taken_own : view_of shape.nodes taken_off txn.session ≡ record (view_of shape.nodes world txn.session) { outcomes = filter (is_of_session txn.session) rest }
   taken_own =
       same_parts _ (record (view_of shape.nodes world txn.session) { outcomes = filter (is_of_session txn.session) rest }) refl (ap (filter (is_of_session txn.session)) (commands_stay txn.session)) refl
       (ap (filter (is_of_session txn.session)) (cond-true _ _ _ (eq-eqb (txn.session % shape.nodes) (txn.session % shape.nodes) refl)))
 
-  abbrev session : SessionState
+  abbrev pub session : SessionState
   session = session_in world.front.sessions txn.session
 
-  its_outcome : IsAtSome shape.nodes world txn.session → IsOutcomeOf txn.session (view_of shape.nodes world txn.session) (Outcome txn number outcome) (filter (is_of_session txn.session) rest)
+  pub its_outcome : IsAtSome shape.nodes world txn.session → IsOutcomeOf txn.session (view_of shape.nodes world txn.session) (Outcome txn number outcome) (filter (is_of_session txn.session) rest)
   its_outcome at =
       outcome_of_stage shape.nodes txn.session (view_of shape.nodes world txn.session) at.0 (Outcome txn number outcome) (filter (is_of_session txn.session) rest) at.1
       (ap (filter (is_of_session txn.session)) waits ∙ cond-true _ _ _ (eq-eqb txn.session txn.session refl))
 
   -- the front hears it
-  heard_step : (from : ℕ) (mark : Bool) → IsAtSome shape.nodes world txn.session → delivered_front (nothing_noted shape) world.front from (Outcome txn number outcome) mark ≡ stepped world.front txn.session (heard (nothing_noted shape) txn.session session outcome)
+  pub heard_step : (from : ℕ) (mark : Bool) → IsAtSome shape.nodes world txn.session → delivered_front (nothing_noted shape) world.front from (Outcome txn number outcome) mark ≡ stepped world.front txn.session (heard (nothing_noted shape) txn.session session outcome)
   heard_step from mark at =
       let is = its_outcome at in
       let same = is.same in
@@ -203,7 +203,7 @@ module _ (shape : Shape) (counted : IsNodeCount shape.nodes) (world : ReplicaWor
       (turns_next shape txn.session (home_few shape counted txn.session) view next.0 next.1)
 
   -- what it sends is what the turns send
-  heard_sends : SendsOneAtMost (nothing_noted shape) txn.session (session_after outcome session).begun (session_after outcome session).current (taken (nothing_noted shape) txn.session (session_after outcome session)) →
+  pub heard_sends : SendsOneAtMost (nothing_noted shape) txn.session (session_after outcome session).begun (session_after outcome session).current (taken (nothing_noted shape) txn.session (session_after outcome session)) →
       SendsOneAtMost (nothing_noted shape) txn.session (session_after outcome session).begun (session_after outcome session).current (heard (nothing_noted shape) txn.session session outcome)
   heard_sends (inl none) = inl (record { begun_is = none.begun_is; current_is = none.current_is; sends = none.sends })
   heard_sends (inr one) = inr (record { command = one.command; next = one.next; may = one.may; begun_is = one.begun_is; current_is = one.current_is; sends = one.sends })

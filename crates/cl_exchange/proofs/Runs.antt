@@ -35,7 +35,7 @@ pub sound_at_first : SoundAtFirst
 sound_at_first shape size = record { places = in_place_at_first first_is_calm shape size; stages = first_stages shape; sessions = length-replicate SESSIONS_MAX no_session }
 
 -- a message on its way is addressed rightly
-first_addressed : (shape : Shape) (world : ReplicaWorld) (from to : ℕ) (content : Content) (rest : List Content) → IsSoundWorld shape world → world.mail from to ≡ content ∷ rest → IsAddressed shape.nodes from to content
+pub first_addressed : (shape : Shape) (world : ReplicaWorld) (from to : ℕ) (content : Content) (rest : List Content) → IsSoundWorld shape world → world.mail from to ≡ content ∷ rest → IsAddressed shape.nodes from to content
 first_addressed shape world from to content rest sound waits =
     All-head (IsAddressed shape.nodes from to) content rest (subst (All (IsAddressed shape.nodes from to)) waits (sound.places.messages from to))
 

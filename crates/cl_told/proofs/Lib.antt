@@ -1,0 +1,7 @@
+pub mod Shown
+pub mod Turning
+pub mod Fronts
+pub mod Feeding
+pub mod Controllers
+pub mod Delivered
+pub mod Events

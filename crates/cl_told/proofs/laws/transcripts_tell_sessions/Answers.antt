@@ -1,0 +1,8 @@
+use Rattle.cl_told.proofs.Events.{told_at_first, events_keep_told}
+use Rattle.cl_told.proofs.laws.transcripts_tell_sessions.Goals as goal
+
+pub returns-clause-first : goal.returns-clause-first
+returns-clause-first c = told_at_first
+
+pub returns-clause-keeps : goal.returns-clause-keeps
+returns-clause-keeps c = events_keep_told
