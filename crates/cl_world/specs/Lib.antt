@@ -1,0 +1,10 @@
+pub mod Happenings
+pub mod Inputs
+pub mod Actors
+pub mod Mail
+pub mod Firm
+pub mod FirmRoom
+pub mod World
+pub mod Taking
+pub mod Running
+pub mod Left
