@@ -1,14 +1,11 @@
 //! The actors of the system.
-ghost use Rattle.std.specs.Prelude.{◌≡◌, ◌<◌, ◌+◌, ◌↔◌, ℕ, true, IsTrue, IfOk, OnOk, OnErr, None, length};
+ghost use Rattle.std.specs.Prelude.{◌≡◌, ◌<◌, ◌+◌, IfOk, None, length};
 ghost use Rattle.std.specs.Vec.{with_item};
 ghost use Rattle.std.specs.Option.{option_copied};
-ghost use Rattle.cl_endpoint.specs.Endpoint.{is_waiting, set_number};
 ghost use Rattle.cl_post.specs.Steps.{IsSpentWhere};
 ghost use Rattle.cl_roster.specs.Roster.{IsClusterSize};
-ghost use Rattle.cl_runs.specs.World.{Shape, IsLiving, with_at};
-ghost use Rattle.cl_serial.specs.Transcript.{transcript_of};
-ghost use Rattle.cl_system.specs.System.{quieted_core};
-ghost use Rattle.cl_world.specs.Actors.{States, AreActors, AreAllThere, IsActorStep, IsResting, MayAct, AreFirstMembers, first_states, is_here, is_waiting_at, member_at, transcript_in, with_core};
+ghost use Rattle.cl_runs.specs.World.{Shape};
+ghost use Rattle.cl_world.specs.Actors.{States, AreActors, AreAllThere, IsActorStep, MayAct, AreFirstMembers, first_states, is_waiting_at, member_at};
 ghost use Rattle.cl_world.specs.Inputs.{input_of, is_input_spent};
 
 use crate::front_seat::FrontSeat;

@@ -15,13 +15,12 @@ pub(crate) enum FrontSeat {
 }
 
 impl FrontSeat {
-    ghost use Rattle.std.specs.Prelude.{◌≡◌, ◌↔◌, true, is_some, IfOk, IsTrue, OnOk, OnErr};
+    ghost use Rattle.std.specs.Prelude.{◌≡◌, ◌↔◌, true, is_some, IsTrue, OnOk, OnErr};
     ghost use Rattle.cl_actor.specs.Acting.{ActingState};
-    ghost use Rattle.cl_endpoint.specs.Endpoint.{is_waiting, set_number};
     ghost use Rattle.cl_post.specs.Steps.{IsSpentWhere};
     ghost use Rattle.cl_serial.specs.Transcript.{transcript_of};
     ghost use Rattle.cl_steps.specs.declared.actors.TheConstants.{FRONT};
-    ghost use Rattle.cl_system.specs.System.{Core, is_core_at_rest, quieted_core};
+    ghost use Rattle.cl_system.specs.System.{Core, quieted_core};
     ghost use Rattle.cl_world.specs.Actors.{IsBareFront, IsFrontIn, IsFrontOf, IsFrontStep, IsResting, is_here, transcript_in, with_core};
     ghost use Rattle.cl_world.specs.Inputs.{input_of, InputFits, is_input_spent};
 

@@ -1,7 +1,6 @@
 //! The place of a node.
-ghost use Rattle.std.specs.Prelude.{◌≡◌, ℕ, false, true, IsTrue, ◌↔◌, Option, Some, IsSome};
+ghost use Rattle.std.specs.Prelude.{ℕ, false, IsTrue, ◌↔◌, Option, Some, IsSome};
 ghost use Rattle.cl_actor.specs.Acting.{ActingState};
-ghost use Rattle.cl_endpoint.specs.Endpoint.{is_waiting};
 ghost use Rattle.cl_post.specs.Steps.{IsSpentWhere};
 ghost use Rattle.cl_system.specs.System.{Core};
 ghost use Rattle.cl_world.specs.Actors.{IsNodeIn, IsNodeStep, IsResting};

@@ -1,15 +1,13 @@
 //! One event.
-ghost use Rattle.std.specs.Prelude.{◌≡◌, ◌<◌, ◌∷◌, ◌++◌, ◌+◌, ◌≤◌, [], map, false, IfOk, OnOk, OnErr, length};
-ghost use Rattle.std.specs.Vec.{with_item};
+ghost use Rattle.std.specs.Prelude.{◌≡◌, ◌∷◌, ◌++◌, ◌+◌, ◌≤◌, [], map, false, IfOk, OnOk, length};
 ghost use Rattle.cl_post.specs.Steps.{IsSpentWhere};
-ghost use Rattle.cl_ranked.specs.Slots.{slot_at};
 ghost use Rattle.cl_runs.specs.World.{Shape, with_firm};
 ghost use Rattle.cl_types.specs.AppendOnlyList.{entries, room};
 ghost use Rattle.cl_types.specs.GrowingList.{items};
 ghost use Rattle.cl_wire.specs.Message.{message_of};
 ghost use Rattle.cl_world.specs.Actors.{IsActorStep};
 ghost use Rattle.cl_world.specs.FirmRoom.{firm_in, firm_room};
-ghost use Rattle.cl_world.specs.Happenings.{happening_of, run_of};
+ghost use Rattle.cl_world.specs.Happenings.{happening_of};
 ghost use Rattle.cl_world.specs.Inputs.{input_of};
 ghost use Rattle.cl_world.specs.Mail.{AreKept, IsStillKept, messages_in, to_living};
 ghost use Rattle.cl_world.specs.Taking.{IsSilent, IsStepEvent, IsTaken, MayTake, actor_of, input_at, is_event_spent, lines_with, refused_of};

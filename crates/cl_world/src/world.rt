@@ -1,17 +1,15 @@
 //! The world: a run of the whole system, event by event.
-ghost use Rattle.std.specs.Prelude.{◌≡◌, ◌↔◌, [], IsTrue, IfOk, slice_get};
+ghost use Rattle.std.specs.Prelude.{◌≡◌, [], IfOk, slice_get};
 ghost use Rattle.std.specs.Option.{option_map};
 ghost use Rattle.cl_ranked.specs.Slots.{kept};
 ghost use Rattle.cl_roster.specs.Roster.{IsClusterSize};
-ghost use Rattle.cl_runs.specs.World.{Shape, Run, IsEnabled, IsLiving, IsQuiet};
+ghost use Rattle.cl_runs.specs.World.{Shape, Run, IsLiving};
 ghost use Rattle.cl_endpoint.specs.Endpoint.{is_waiting};
 ghost use Rattle.cl_serial.specs.Transcript.{transcript_of};
 ghost use Rattle.cl_steps.specs.declared.actors.TheConstants.{FRONT};
-ghost use Rattle.cl_system.specs.System.{system};
 ghost use Rattle.cl_types.specs.GrowingList.{items};
 ghost use Rattle.cl_world.specs.Actors.{is_waiting_at, transcript_in};
-ghost use Rattle.cl_world.specs.Happenings.{happening_of};
-ghost use Rattle.cl_world.specs.Mail.{IsStillKept, forgotten, on_way};
+ghost use Rattle.cl_world.specs.Mail.{forgotten, on_way};
 ghost use Rattle.cl_world.specs.World.{IsWorldOf, IsWhole, moment_after};
 
 use crate::actors::Actors;
