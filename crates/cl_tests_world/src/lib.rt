@@ -1,0 +1,9 @@
+//! Tests of the world through its public calls.
+#![tactic(auto)]
+
+#[cfg(test)]
+mod asked;
+#[cfg(test)]
+mod events;
+#[cfg(test)]
+mod running;
