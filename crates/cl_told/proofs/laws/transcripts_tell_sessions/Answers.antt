@@ -1,4 +1,5 @@
 use Rattle.cl_told.proofs.Events.{told_at_first, events_keep_told}
+use Rattle.cl_told.proofs.Runs.{runs_are_told}
 use Rattle.cl_told.proofs.laws.transcripts_tell_sessions.Goals as goal
 
 pub returns-clause-first : goal.returns-clause-first
@@ -6,3 +7,6 @@ returns-clause-first c = told_at_first
 
 pub returns-clause-keeps : goal.returns-clause-keeps
 returns-clause-keeps c = events_keep_told
+
+pub returns-clause-runs : goal.returns-clause-runs
+returns-clause-runs c = runs_are_told
