@@ -4,11 +4,25 @@ use crate::types::Replied::{Absent, Found, NotNumber, OutOfRange, Stored, Sum};
 use cl_samples::{NoSample, is_value, key, optional_value, table, txn, value};
 use cl_types::{
     AbortCause, Answer, AppendOnlyList, Command, GrowingList, Key, NoMemory, Op, Outcome, Reply,
-    TableName, Text, Value, apply_op, copy_value, fragment, hash, is_node_count, natural_of,
+    TableName, Text, Value, apply_op, copy_value, fragment, hash, is_node_count, mix, natural_of,
     number_of, number_of_text, vnode_of,
 };
 use std::alloc::Global;
 use std::test::Fail;
+
+// The first three numbers that SplitMix64 gives from the seed 0, and one draw that wraps.
+#[test]
+fn draws_are_those_of_splitmix(rt: HostRuntime) {
+    let rows: &[(u64, u64)] = &[
+        (0, 0xE220A8397B1DCDAF),
+        (0x9E3779B97F4A7C15, 0x6E789E6AA1B965F4),
+        (0x3C6EF372FE94F82A, 0x06C45D188009454F),
+        (u64::MAX, 0xE4D971771B652C20),
+    ];
+    for (x, drawn) in rows {
+        assert!(rt; mix(*x) == *drawn, "{x}");
+    }
+}
 
 // Whether the key has this hash, and belongs to this fragment and virtual node of four nodes.
 fn is_placed(bytes: &[u8], hashed: u32, part: u32, vnode: u32) -> bool {

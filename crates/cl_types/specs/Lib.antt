@@ -1,5 +1,6 @@
 pub mod AppendOnlyList
 pub mod Decimal
+pub mod Draws
 pub mod GrowingList
 pub mod Modes
 pub mod Names

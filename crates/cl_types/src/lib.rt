@@ -5,6 +5,7 @@ mod answers;
 mod append_only_list;
 mod apply;
 mod decimal;
+mod draws;
 mod growing_list;
 mod limits;
 mod names;
@@ -19,6 +20,7 @@ pub use apply::{apply_op, augend_of};
 pub use decimal::{
     natural_and_text_law, natural_of, number_and_text_law, number_of, number_of_text,
 };
+pub use draws::mix;
 pub use growing_list::{GrowingList, Text};
 pub use limits::{OPERATIONS_MAX, SESSIONS_MAX};
 pub use names::{KEY_MAX, Key, TABLE_NAME_MAX, TableName};
