@@ -40,7 +40,7 @@ stored_at-before place item items sorted before =
     (λ i after. same_place-after (place_of i) place (scan_order-total.trans place (place_of item) (place_of i) before after)) items (places_back [] item items sorted)))
 
 -- nothing else stands at the place of the first record
-stored_at-rest : (item : Item) (items : List Item) → IsInScanOrder (item ∷ items) → stored_at items (place_of item) ≡ (0, None)
+pub stored_at-rest : (item : Item) (items : List Item) → IsInScanOrder (item ∷ items) → stored_at items (place_of item) ≡ (0, None)
 stored_at-rest item items sorted =
     stored_at-elsewhere items (place_of item)
     (All-weaker (λ i. scan_order (place_of item) (place_of i) ≡ Less) (λ i. same_place (place_of i) (place_of item) ≡ false)

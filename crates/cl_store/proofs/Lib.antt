@@ -1,3 +1,4 @@
+pub mod Counted
 pub mod Determined
 pub mod Found
 pub mod InOrder

@@ -24,7 +24,7 @@ pub struct Store {
 
 #[tactic(auto, unfolding(crate::specs::Store::records, crate::specs::Store::room))]
 impl Store {
-    ghost use Rattle.std.specs.Prelude.{◌≡◌, ◌+◌, ◌<◌, ◌≤◌, ◌⊎◌, [], OnOk, IsOk, IfOk, if◌then◌else◌};
+    ghost use Rattle.std.specs.Prelude.{◌≡◌, ◌+◌, ◌^◌, ◌<◌, ◌≤◌, ◌⊎◌, [], OnOk, IsOk, IfOk, if◌then◌else◌};
     ghost use Rattle.std.specs.Option.{option_copied};
     ghost use Rattle.cl_types.specs.GrowingList.{items};
     ghost use Rattle.cl_types.specs.Places.{Place, same_place};
@@ -108,8 +108,10 @@ impl Store {
 
     /// How many records have a value. It takes constant time.
     pub fn live_count(&self) -> u64
-        ensures { result ≡ live (records self.now) }
+        ensures count { result ≡ live (records self.now) }
+        ensures few { result < 2 ^ 60 }
     {
+        let _entries = self.entries.as_slice();
         self.live_count
     }
 
