@@ -1,5 +1,5 @@
 -- The system that the program runs: what its front and its nodes decide.
-use Rattle.std.specs.Prelude.{ℕ, ◌==◌, Bool, true, false, not, if◌then◌else◌, List, Result, Ok, Err}
+use Rattle.std.specs.Prelude.{ℕ, ◌==◌, Bool, true, false, not, if◌then◌else◌, List, [], Result, Ok, Err}
 use Rattle.cl_actor.specs.Core.{Noted, CoreStep}
 use Rattle.cl_front.specs.Front.{FrontState, new_front, delivered_front, fed_front, quiet_front, is_answered}
 use Rattle.cl_lines.specs.Line.{line_of}
@@ -8,6 +8,7 @@ use Rattle.cl_lines.specs.declared.line.Line.TheVariants.{Client, Operator}
 use Rattle.cl_lines.specs.declared.line.LineFault.{LineFault}
 use Rattle.cl_lines.specs.declared.out.Out.{Out}
 use Rattle.cl_node.specs.Node.{NodeState, first_node, delivered_node, fed_node, is_any_busy}
+use Rattle.cl_serial.specs.Transcript.{TranscriptEntry}
 use Rattle.cl_steps.specs.declared.actors.TheConstants.{FRONT}
 use Rattle.cl_wire.specs.Message.{Content}
 use Rattle.cl_runs.specs.World.{Cores}
@@ -48,6 +49,11 @@ quieted_core actor (node state) = node state
 abbrev pub is_core_at_rest : ℕ → Core → Bool
 is_core_at_rest actor (front state) = is_answered state
 is_core_at_rest actor (node state) = not (is_any_busy state)
+
+-- the transcript of an actor; that of a node is empty
+abbrev pub transcript_in : Core → List TranscriptEntry
+transcript_in (front state) = state.transcript
+transcript_in (node state) = []
 
 -- the line waits for a quiet moment: QUIET, so far
 abbrev pub is_operators : Result Line LineFault → Bool

@@ -4,6 +4,8 @@
 #[cfg(test)]
 mod asked;
 #[cfg(test)]
+mod audited;
+#[cfg(test)]
 mod events;
 #[cfg(test)]
 mod running;

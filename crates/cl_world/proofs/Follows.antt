@@ -1,6 +1,6 @@
 -- One event more of a list of events.
 use Rattle.std.proofs.Common.{◌≡◌, ℕ, zero, suc, ◌+◌, ◌-◌, ◌<◌, ◌||◌, Bool, true, false, cond, eqb, ltb, List, [], ◌∷◌, ◌++◌, length, map, Option, Some, None, ◌≤◌, ◌⊎◌, IsSome, add-one, drop, get_or, slice_get, unwrap_or, inl, inr, refl, sym, ap, subst, ◌∙◌, arith, append_assoc}
-use Rattle.std.specs.List.{All}
+use Rattle.std.specs.List.{All, fold}
 use Rattle.std.proofs.Math.Seq.{drop-cons}
 use Rattle.std.proofs.Math.ListN.{drop_of_length-le}
 use Rattle.std.proofs.lemmas.Bool.{eq-eqb, lt-ltb}
@@ -9,7 +9,8 @@ use Rattle.std.proofs.lemmas.List.Elements.{All-cons, All-tail}
 use Rattle.cl_exchange.specs.Laws.{EveryInputFits}
 use Rattle.cl_post.specs.declared.event.Event.{Event}
 use Rattle.cl_post.specs.declared.event.Event.TheVariants as events
-use Rattle.cl_runs.specs.World.{Shape, Run, Happening, IsLiving, IsEnabled, MayHandle}
+use Rattle.cl_ranges.specs.Spent.{is_spent, IsUnspentRun}
+use Rattle.cl_runs.specs.World.{Shape, Run, Happening, IsLiving, IsEnabled, MayHandle, EachMayHappen, after_event, first_world, world_after}
 use Rattle.cl_runs.specs.Laws.{GoesOn}
 use Rattle.cl_runs.proofs.Runs.{runs_go_on, runs_are_wide}
 use Rattle.cl_steps.specs.declared.actors.TheConstants.{FRONT}
@@ -123,6 +124,21 @@ first_may every_input_fits shape made run event rest may =
 goes_on : (shape : Shape) (run : Run) (event : Event) (mark : Bool) → GoesOn (system shape.nodes) shape run (happening_of event) mark
 goes_on shape run event mark = runs_go_on (system shape.nodes) shape run (happening_of event) mark
 
+-- ---- no step is spent
+
+push_each : {W E : Type 0} (P : W → E → Type 0) (next : W → E → W) (events : List E) (state : W) (event : E) → EachMayHappen P next events state →
+    P (fold next state events) event → EachMayHappen P next (events ++ event ∷ []) state
+push_each P next [] state event each last = (last, tt)
+push_each P next (first ∷ events) state event each last = (each.0, push_each P next events (next state first) event each.1 last)
+
+-- a run of which no step is spent, with one event more that is not
+unspent_on : (shape : Shape) (run : Run) (happening : Happening) (mark : Bool) → IsUnspentRun shape run →
+    is_spent (moment_after shape run) happening ≡ false → IsUnspentRun shape (run ++ (happening, mark) ∷ [])
+unfolding IsUnspentRun world_after
+unspent_on shape run happening mark unspent last =
+    push_each (λ (world : Moment) (event : Happening × Bool). is_spent world event.0 ≡ false) (after_event (system shape.nodes)) run
+    (first_world (system shape.nodes) shape) (happening, mark) unspent last
+
 -- the run with one event more
 abbrev pub with_event : Run → Event → Bool → Run
 with_event run event mark = run ++ (happening_of event, mark) ∷ []
@@ -143,6 +159,7 @@ rest_may shape before after run event rest may taken =
     record {
       is = record {
         is_run = on.enabled.1 (may.is.is_run, may.follow.0);
+        unspent = unspent_on shape run (happening_of event) taken.mark may.is.unspent taken.unspent;
         trace = taken.trace ∙ ap (λ (r : Run). with_event r event taken.mark) may.is.trace;
         now = subst (λ m. IsAt shape after m) (sym on.world) taken.now;
       };
@@ -221,7 +238,7 @@ stops shape initial before after run events event rest refused so_far lost = rec
   more = so_far.more;
   rest = event ∷ rest;
   made = so_far.made;
-  left = record { is_run = so_far.may.is.is_run; trace = lost.trace ∙ so_far.may.is.trace; left = lost.left };
+  left = record { is_run = so_far.may.is.is_run; unspent = so_far.may.is.unspent; trace = lost.trace ∙ so_far.may.is.trace; left = lost.left };
   others = lost.others;
   spent = lost.spent;
 }
@@ -244,6 +261,7 @@ drops shape initial before after run events event rest refused so_far dropped =
     let same : with_event (run ++ so_far.more) event dropped.mark ≡ run ++ more = append_assoc run so_far.more ((happening_of event, dropped.mark) ∷ []) in
     let left : IsLeftOf shape after (with_event (run ++ so_far.more) event dropped.mark) = record {
       is_run = on.enabled.1 (so_far.may.is.is_run, so_far.may.follow.0);
+      unspent = unspent_on shape (run ++ so_far.more) (happening_of event) dropped.mark so_far.may.is.unspent dropped.unspent;
       trace = dropped.trace ∙ ap (λ (r : Run). with_event r event dropped.mark) so_far.may.is.trace;
       left = subst (λ m. IsLeftAt shape after m) (sym on.world) dropped.left;
     } in

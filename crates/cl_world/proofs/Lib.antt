@@ -6,3 +6,4 @@ pub mod Handles
 pub mod Quiets
 pub mod Takes
 pub mod Follows
+pub mod Audits

@@ -1,9 +1,12 @@
 -- Packets that are kept.
-use Rattle.std.proofs.Common.{◌≡◌, ℕ, zero, suc, ◌+◌, ◌-◌, ◌<◌, eqb, cond, true, false, List, [], ◌∷◌, ◌++◌, length, map, Option, Some, None, set, slice_get, unwrap_or, refl, sym, ap, ◌∙◌, arith}
+use Rattle.std.proofs.Common.{◌≡◌, ℕ, zero, suc, ◌+◌, ◌-◌, ◌<◌, eqb, cond, Bool, true, false, List, [], ◌∷◌, ◌++◌, length, get_or, map, Option, Some, None, set, slice_get, unwrap_or, refl, sym, ap, ◌∙◌, arith}
+use Rattle.std.specs.Option.{option_map}
+use Rattle.std.proofs.lemmas.List.{map-set}
+use Rattle.std.proofs.lemmas.List.Elements.{All-append, All-map, All-same, All-set}
 use Rattle.cl_ranked.specs.Slots.{kept_from, slot_at}
 use Rattle.cl_wire.specs.declared.packet.Packet.{Packet}
 use Rattle.cl_wire.specs.Message.{Message, message_of}
-use Rattle.cl_world.specs.Mail.{messages_in, AreKept, forgotten, is_living, to_living, IsSlotOf}
+use Rattle.cl_world.specs.Mail.{messages_in, AreKept, AreToLiving, IsToLiving, forgotten, is_living, to_living, IsSlotOf}
 
 -- the index of an item that is kept is one of a slot
 pub kept_bound : {T : Type 0} (slots : List (Option T)) (first rank index : ℕ) (item : T) → slice_get (kept_from first slots) rank ≡ Some (index, item) → index < first + length slots
@@ -48,3 +51,22 @@ kept_more [] [] living (m ∷ more) kept = (slot_of living m, kept_more [] [] li
 kept_more [] (m ∷ emitted) living more kept = absurd kept
 kept_more (slot ∷ slots) [] living more kept = absurd kept
 kept_more (slot ∷ slots) (m ∷ emitted) living more kept = (kept.0, kept_more slots emitted living more kept.1)
+
+lives_where : (living : ℕ) (m : Message) (lives : Bool) → is_living living m.to ≡ lives → IsToLiving living (cond lives (Some m) None)
+lives_where living m true is = is
+lives_where living m false is = tt
+
+-- what an event emits is kept only where its receiver lives
+pub living_more : (living : ℕ) (slots : List (Option Message)) (more : List Message) → AreToLiving living slots → AreToLiving living (slots ++ map (to_living living) more)
+living_more living slots more are =
+    All-append (IsToLiving living) slots (map (to_living living) more) are
+    (All-map (IsToLiving living) (to_living living) more (λ k d within. lives_where living (get_or more k d) (is_living living (get_or more k d).to) refl))
+
+-- a packet that is forgotten
+pub living_forgotten : (living : ℕ) (slots : List (Option Packet)) (id : ℕ) → AreToLiving living (messages_in slots) → AreToLiving living (messages_in (forgotten slots id))
+living_forgotten living slots id are =
+    elim (eqb id 0) as (λ none. AreToLiving living (messages_in (cond none slots (set slots (id - 1) None)))) [
+      | true ↦ are
+      | false ↦ All-same (IsToLiving living) (messages_in (set slots (id - 1) None)) (set (messages_in slots) (id - 1) None) (map-set (option_map message_of) slots (id - 1) None)
+          (All-set (IsToLiving living) (messages_in slots) (id - 1) None tt are)
+    ]

@@ -19,9 +19,10 @@ use Rattle.cl_post.specs.declared.event.Event.TheVariants as events
 use Rattle.cl_post.specs.declared.outs.Outs.{Outs}
 use Rattle.cl_post.specs.Steps.{Input, outs_of, IsSpentWhere}
 use Rattle.cl_post.specs.Steps as inputs
+use Rattle.cl_ranges.specs.Spent.{is_packet_spent, is_spent}
 use Rattle.cl_ranked.specs.Slots.{slot_at}
 use Rattle.cl_roster.specs.Roster.{IsClusterSize}
-use Rattle.cl_runs.specs.World.{Shape, IsLiving, MayHandle, IsEnabled, after, after_handling, after_acting, quiet, with_firm}
+use Rattle.cl_runs.specs.World.{Shape, IsLiving, MayHandle, IsEnabled, after, after_handling, after_acting, packet_at, quiet, with_firm}
 use Rattle.cl_runs.proofs.Updates.{with_at-here}
 use Rattle.cl_steps.specs.declared.actors.TheConstants.{FRONT}
 use Rattle.cl_system.specs.System.{Core, quieted_core, system}
@@ -41,12 +42,12 @@ use Rattle.cl_types.specs.declared.no_memory.NoMemory.{NoMemory as OutOfMemory}
 use Rattle.cl_world.specs.declared.actors.Actors.{Actors}
 use Rattle.cl_world.specs.FirmRoom.{firm_in}
 use Rattle.cl_world.specs.Happenings.{happening_of, run_of}
-use Rattle.cl_world.specs.Inputs.{acted_core, InputFits}
-use Rattle.cl_world.specs.Mail.{AreKept, messages_in, to_living}
+use Rattle.cl_world.specs.Inputs.{acted_core, InputFits, is_input_spent}
+use Rattle.cl_world.specs.Mail.{AreKept, AreToLiving, messages_in, to_living}
 use Rattle.cl_world.specs.Taking.{IsStepEvent, IsTaken, MayTake, HasTaken, HasLost, HasDropped, IsLeftAt, KeepsEmitted, actor_of, input_at, packet_input, is_event_spent, lines_with, moment_with, refused_of}
-use Rattle.cl_world.specs.World.{Moment, IsAt, living_in}
+use Rattle.cl_world.specs.World.{Moment, IsAt, IsFirstRoster, living_in}
 use Rattle.cl_world.specs.declared.world.World.{World}
-use Rattle.cl_world.proofs.Packets.{kept_at, kept_more}
+use Rattle.cl_world.proofs.Packets.{kept_at, kept_more, living_more}
 use Rattle.cl_world.proofs.Moves.{with_at-elsewhere, slots_with, below_front}
 
 -- what a packet gives its receiver
@@ -99,6 +100,20 @@ moment_of shape moment (events.Feed number text said) mark step may =
     ap (λ (n : ℕ). let moved : Moment = record (after_acting moment FRONT (acted_core FRONT (moment.actors FRONT) (inputs.feed number (items text) (items said)) mark)) { lines = n } in moved) (sym may.widely.next)
 moment_of shape moment events.Quiet mark step may = absurd step
 
+packet_spends : (moment : Moment) (actor : ℕ) (found : Option Message) →
+    is_input_spent actor (moment.actors actor) (packet_input found) ≡ is_packet_spent moment actor found
+packet_spends moment actor None = refl
+packet_spends moment actor (Some m) = refl
+
+-- an event needs the numbers that the step of its actor needs
+pub step_spends : (moment : Moment) (event : Event) → IsStepEvent event →
+    is_input_spent (actor_of event) (moment.actors (actor_of event)) (input_at moment (happening_of event)) ≡ is_event_spent moment event
+unfolding is_spent
+step_spends moment (events.Handle actor id) step = packet_spends moment actor (packet_at moment id)
+step_spends moment (events.Tick actor) step = refl
+step_spends moment (events.Feed number text said) step = refl
+step_spends moment events.Quiet step = absurd step
+
 -- what was noted of a step
 pub record IsNoted (before after : World) (event : Event) (outs : Outs) : Type 0 where
   pub nodes : after.nodes ≡ before.nodes
@@ -107,6 +122,7 @@ pub record IsNoted (before after : World) (event : Event) (outs : Outs) : Type 0
   pub trace : run_of (entries after.trace) ≡ run_of (entries before.trace) ++ (happening_of event, outs.short) ∷ []
   pub lines : after.lines ≡ lines_with before.lines event
   pub quiet : after.quiet_now ≡ false
+  pub roster : after.roster ≡ before.roster
 
 -- the moment once an actor acted
 abbrev pub acted_moment : Moment → Event → Bool → Moment
@@ -124,9 +140,10 @@ firm_after shape before after moment event outs at acted noted =
 
 -- the event was made
 pub has_taken : (shape : Shape) (before after : World) (moment : Moment) (event : Event) (outs : Outs) → IsStepEvent event → IsAt shape before moment → MayTake shape before moment event →
-    HasActed shape after.actors moment.actors (actor_of event) (input_at moment (happening_of event)) outs → IsNoted before after event outs → KeepsOuts shape before after outs →
+    is_event_spent moment event ≡ false → HasActed shape after.actors moment.actors (actor_of event) (input_at moment (happening_of event)) outs →
+    IsNoted before after event outs → KeepsOuts shape before after outs →
     HasTaken shape before after moment event
-has_taken shape before after moment event outs step at may acted noted keeps =
+has_taken shape before after moment event outs step at may unspent acted noted keeps =
     let more : List Message = (acted_core (actor_of event) (moment.actors (actor_of event)) (input_at moment (happening_of event)) outs.short).1.packets in
     let slots : messages_in after.mail ≡ messages_in before.mail ++ map (to_living (living_in shape)) more
     = keeps ∙ ap (λ given. messages_in before.mail ++ map (to_living (living_in shape)) given.packets) acted.given in
@@ -135,8 +152,10 @@ has_taken shape before after moment event outs step at may acted noted keeps =
       size = at.size;
       nodes = noted.nodes ∙ at.nodes;
       spares = noted.spares ∙ at.spares;
+      roster = subst (IsFirstRoster shape) (sym noted.roster) at.roster;
       actors = acted.after;
       mail = subst (λ kept. AreKept kept (moment.packets ++ more)) (sym slots) (kept_more (messages_in before.mail) moment.packets (living_in shape) more at.mail);
+      living = subst (λ kept. AreToLiving (living_in shape) kept) (sym slots) (living_more (living_in shape) (messages_in before.mail) more at.living);
       history = firm_after shape before after moment event outs at acted noted;
       lines = noted.lines ∙ ap (λ n. lines_with n event) at.lines;
       quiet = noted.quiet;
@@ -144,6 +163,7 @@ has_taken shape before after moment event outs step at may acted noted keeps =
     let keeps_them : KeepsEmitted shape before after moment (acted_moment moment event outs.short) = record { more = more; emitted = refl; kept = slots } in
     record {
       mark = outs.short;
+      unspent = unspent;
       now = subst (λ m. IsAt shape after m) same now;
       whole = acted.there;
       trace = noted.trace;
@@ -152,17 +172,23 @@ has_taken shape before after moment event outs step at may acted noted keeps =
 
 -- the event was made, but not all that it emitted is kept
 pub has_dropped : (shape : Shape) (before after : World) (moment : Moment) (event : Event) (outs : Outs) → IsStepEvent event → IsAt shape before moment → MayTake shape before moment event →
-    HasActed shape after.actors moment.actors (actor_of event) (input_at moment (happening_of event)) outs → IsNoted before after event outs → HasDropped shape before after moment event NoMemory
-has_dropped shape before after moment event outs step at may acted noted =
+    is_event_spent moment event ≡ false → HasActed shape after.actors moment.actors (actor_of event) (input_at moment (happening_of event)) outs →
+    IsNoted before after event outs → HasDropped shape before after moment event NoMemory
+has_dropped shape before after moment event outs step at may unspent acted noted =
     let same : acted_moment moment event outs.short ≡ moment_with shape moment event outs.short = sym (moment_of shape moment event outs.short step may.enabled) in
-    let left : IsLeftAt shape after (acted_moment moment event outs.short) = record { actors = acted.after; history = firm_after shape before after moment event outs at acted noted } in
-    record { mark = outs.short; left = subst (λ m. IsLeftAt shape after m) same left; whole = acted.there; trace = noted.trace; short = refl }
+    let left : IsLeftAt shape after (acted_moment moment event outs.short) = record {
+      actors = acted.after;
+      history = firm_after shape before after moment event outs at acted noted;
+      roster = subst (IsFirstRoster shape) (sym noted.roster) at.roster;
+    } in
+    record { mark = outs.short; unspent = unspent; left = subst (λ m. IsLeftAt shape after m) same left; whole = acted.there; trace = noted.trace; short = refl }
 
 -- nothing happened
 pub has_lost : (shape : Shape) (before after : World) (moment : Moment) (event : Event) (refused : Refused) → IsAt shape before moment → HasFailed shape after.actors moment.actors (actor_of event) →
-    firm_in after.firm ≡ firm_in before.firm → entries after.trace ≡ entries before.trace → (refused ≡ Spent → is_event_spent moment event ≡ true) → HasLost shape before after moment event refused
-has_lost shape before after moment event refused at failed firm trace spent = record {
-  left = record { actors = failed.same; history = firm ∙ at.history };
+    firm_in after.firm ≡ firm_in before.firm → after.roster ≡ before.roster → entries after.trace ≡ entries before.trace →
+    (refused ≡ Spent → is_event_spent moment event ≡ true) → HasLost shape before after moment event refused
+has_lost shape before after moment event refused at failed firm roster trace spent = record {
+  left = record { actors = failed.same; history = firm ∙ at.history; roster = subst (IsFirstRoster shape) (sym roster) at.roster };
   others = failed.there;
   trace = ap run_of trace;
   spent = spent;
@@ -252,36 +278,43 @@ lose_bound shape before middle moment event outs step may acted ne =
 -- what a step made firm has no room
 pub gives_up : (shape : Shape) (before middle after : World) (moment : Moment) (event : Event) (outs : Outs) (actor : ℕ) → IsStepEvent event → IsAt shape before moment → MayTake shape before moment event →
     HasActed shape middle.actors moment.actors (actor_of event) (input_at moment (happening_of event)) outs → actor_of event ≢ FRONT → actor ≡ actor_of event →
-    after.actors ≡ record middle.actors { members = with_item middle.actors.members actor None } → firm_in after.firm ≡ firm_in before.firm → entries after.trace ≡ entries before.trace →
-    HasLost shape before after moment event NoMemory
-gives_up shape before middle after moment event outs actor step at may acted ne is actors firm trace =
+    after.actors ≡ record middle.actors { members = with_item middle.actors.members actor None } → firm_in after.firm ≡ firm_in before.firm →
+    after.roster ≡ before.roster → entries after.trace ≡ entries before.trace → HasLost shape before after moment event NoMemory
+gives_up shape before middle after moment event outs actor step at may acted ne is actors firm roster trace =
     let others = unmoved_others shape middle.actors moment.actors (actor_of event) (input_at moment (happening_of event)) outs ne acted in
     let failed = lost_node shape middle.actors moment.actors (actor_of event) (input_at moment (happening_of event)) outs at.size (living_of shape before moment event step may) ne others.0 others.1 acted in
     let same : record middle.actors { members = with_item middle.actors.members (actor_of event) None } ≡ after.actors
     = sym (actors ∙ ap (λ (a : ℕ). let all : Actors = record middle.actors { members = with_item middle.actors.members a None } in all) is) in
-    has_lost shape before after moment event NoMemory at (subst (λ all. HasFailed shape all moment.actors (actor_of event)) same failed) firm trace (λ spent. absurd cc)
+    has_lost shape before after moment event NoMemory at (subst (λ all. HasFailed shape all moment.actors (actor_of event)) same failed)
+    firm roster trace (λ spent. absurd cc)
 
 -- what was noted of a step, and whether all its packets are kept
 pub noted_result : (shape : Shape) (before after : World) (moment : Moment) (event : Event) (outs : Outs) (kept : Result (Unit {0}) OutOfMemory) → IsStepEvent event → IsAt shape before moment → MayTake shape before moment event →
-    HasActed shape after.actors moment.actors (actor_of event) (input_at moment (happening_of event)) outs → IsNoted before after event outs → OnOk kept (KeepsOuts shape before after outs) →
+    is_event_spent moment event ≡ false → HasActed shape after.actors moment.actors (actor_of event) (input_at moment (happening_of event)) outs →
+    IsNoted before after event outs → OnOk kept (KeepsOuts shape before after outs) →
     IsTaken shape before after moment event (refused_of kept)
-noted_result shape before after moment event outs (Ok done) step at may acted noted keeps = has_taken shape before after moment event outs step at may acted noted keeps
-noted_result shape before after moment event outs (Err error) step at may acted noted keeps = inr (has_dropped shape before after moment event outs step at may acted noted)
+noted_result shape before after moment event outs (Ok done) step at may unspent acted noted keeps =
+    has_taken shape before after moment event outs step at may unspent acted noted keeps
+noted_result shape before after moment event outs (Err error) step at may unspent acted noted keeps =
+    inr (has_dropped shape before after moment event outs step at may unspent acted noted)
 
 -- a quiet moment is noted
-pub quiet_taken : (shape : Shape) (before after : World) (moment : Moment) → IsAt shape before moment → MayTake shape before moment events.Quiet → after.nodes ≡ before.nodes → after.spares ≡ before.spares →
-    after.actors.members ≡ before.actors.members → messages_in after.mail ≡ messages_in before.mail → firm_in after.firm ≡ firm_in before.firm → after.lines ≡ before.lines → after.quiet_now ≡ true →
+pub quiet_taken : (shape : Shape) (before after : World) (moment : Moment) → IsAt shape before moment → MayTake shape before moment events.Quiet → after.nodes ≡ before.nodes →
+    after.spares ≡ before.spares → after.roster ≡ before.roster → after.actors.members ≡ before.actors.members →
+    messages_in after.mail ≡ messages_in before.mail → firm_in after.firm ≡ firm_in before.firm → after.lines ≡ before.lines → after.quiet_now ≡ true →
     run_of (entries after.trace) ≡ run_of (entries before.trace) ++ (quiet, false) ∷ [] →
     IsFrontIn after.actors.front (with_core (moment.actors FRONT) (quieted_core FRONT (moment.actors FRONT).core)) → is_here after.actors.front ≡ true → HasTaken shape before after moment events.Quiet
-unfolding after
-quiet_taken shape before after moment at may nodes spares members mail firm lines quiet_now trace front here =
+unfolding after is_spent
+quiet_taken shape before after moment at may nodes spares roster members mail firm lines quiet_now trace front here =
     let value : ActingState Core = with_core (moment.actors FRONT) (quieted_core FRONT (moment.actors FRONT).core) in
     record {
       mark = false;
+      unspent = refl;
       now = record {
         size = at.size;
         nodes = nodes ∙ at.nodes;
         spares = spares ∙ at.spares;
+        roster = subst (IsFirstRoster shape) (sym roster) at.roster;
         actors = record {
           front = subst (λ a. IsFrontIn after.actors.front a) (sym (with_at-here moment.actors FRONT value)) front;
           counted = ap (λ all. length all.items) members ∙ at.actors.counted;
@@ -291,6 +324,7 @@ quiet_taken shape before after moment at may nodes spares members mail firm line
               (subst (λ all. IsNodeIn (get_or all.items k None) (moment.actors k)) (sym members) (at.actors.members k within));
         };
         mail = subst (λ kept. AreKept kept moment.packets) (sym mail) at.mail;
+        living = subst (λ kept. AreToLiving (living_in shape) kept) (sym mail) at.living;
         history = firm ∙ at.history;
         lines = lines ∙ at.lines;
         quiet = quiet_now;
@@ -310,8 +344,10 @@ at_with shape made trace moment at = record {
   size = at.size;
   nodes = at.nodes;
   spares = at.spares;
+  roster = at.roster;
   actors = at.actors;
   mail = at.mail;
+  living = at.living;
   history = at.history;
   lines = at.lines;
   quiet = at.quiet;

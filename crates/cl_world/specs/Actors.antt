@@ -13,9 +13,9 @@ use Rattle.cl_post.specs.declared.outs.Outs.{Outs}
 use Rattle.cl_post.specs.Steps.{Input, outs_of}
 use Rattle.cl_roster.specs.Roster.{IsClusterSize}
 use Rattle.cl_runs.specs.World.{Shape, IsLiving, with_at}
-use Rattle.cl_serial.specs.Transcript.{TranscriptEntry, transcript_of}
+use Rattle.cl_serial.specs.Transcript.{transcript_of}
 use Rattle.cl_steps.specs.declared.actors.TheConstants.{FRONT}
-use Rattle.cl_system.specs.System.{Core, front, node, first_core, is_core_at_rest}
+use Rattle.cl_system.specs.System.{Core, front, node, first_core, is_core_at_rest, transcript_in}
 use Rattle.cl_types.specs.declared.answers.Refused.{Refused}
 use Rattle.cl_world.specs.Inputs.{acted_core, InputFits}
 use Rattle.cl_world.specs.declared.actors.Actors.{Actors}
@@ -33,11 +33,6 @@ front_state state = record { core = front state.core; endpoint = state.endpoint 
 -- a state of a node, as one of an actor
 abbrev pub node_state : NodeMachineState → ActingState Core
 node_state state = record { core = node state.core; endpoint = state.endpoint }
-
--- the transcript of an actor; that of a node is empty
-abbrev pub transcript_in : Core → List TranscriptEntry
-transcript_in (front state) = state.transcript
-transcript_in (node state) = []
 
 -- the front has the state of this actor
 pub record HasFrontState (machine : Front) (actor : ActingState Core) : Type 0 where

@@ -1,15 +1,12 @@
 -- What an event gives an actor of the system, and what the actor makes of it.
-use Rattle.std.specs.Prelude.{ℕ, Bool, List}
+use Rattle.std.specs.Prelude.{ℕ, Bool}
 use Rattle.cl_actor.specs.Acting.{ActingState, ActingFits, acted, is_acting_spent}
-use Rattle.cl_actor.specs.Core.{Noted}
 use Rattle.cl_exchange.specs.Laws.{CoreDeliveryFits, CoreLineFits}
-use Rattle.cl_front.specs.Front as at_front
-use Rattle.cl_lines.specs.declared.out.Out.{Out}
-use Rattle.cl_node.specs.Node as at_node
 use Rattle.cl_post.specs.Steps.{Input, handle, tick, feed, OutsData}
-use Rattle.cl_system.specs.System.{Core, front, node, delivered_core, fed_core}
+use Rattle.cl_ranges.specs.Spent.{is_core_delivery_spent, is_core_line_spent}
+use Rattle.cl_system.specs.System.{Core, delivered_core, fed_core}
 use Rattle.cl_types.specs.GrowingList.{items}
-use Rattle.cl_wire.specs.Message.{Content, message_of}
+use Rattle.cl_wire.specs.Message.{message_of}
 use Rattle.cl_world.specs.declared.given.Given.{Given}
 use Rattle.cl_world.specs.declared.given.Given.TheVariants.{Packet, Tick, Line}
 
@@ -26,16 +23,6 @@ acted_core actor before input mark = acted (delivered_core actor) (fed_core acto
 -- the input fits the actor
 abbrev pub InputFits : ℕ → ActingState Core → Input → Type 0
 InputFits actor before input = ActingFits (delivered_core actor) (fed_core actor) CoreDeliveryFits CoreLineFits before input
-
--- a message needs a number above its limit
-abbrev pub is_core_delivery_spent : Noted → Core → ℕ → Content → Bool
-is_core_delivery_spent noted (front state) from content = at_front.is_delivery_spent noted state from content
-is_core_delivery_spent noted (node state) from content = at_node.is_delivery_spent noted state from content
-
--- a line needs a number above its limit
-abbrev pub is_core_line_spent : Noted → Core → ℕ → List ℕ → List Out → Bool
-is_core_line_spent noted (front state) number text said = at_front.is_line_spent noted state number text said
-is_core_line_spent noted (node state) number text said = at_node.is_line_spent noted state number text said
 
 -- the step needs a number above its limit
 abbrev pub is_input_spent : ℕ → ActingState Core → Input → Bool

@@ -8,3 +8,4 @@ pub mod World
 pub mod Taking
 pub mod Running
 pub mod Left
+pub mod Audit

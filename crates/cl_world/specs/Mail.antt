@@ -1,7 +1,7 @@
 -- Which packets of a run are still kept.
 use Rattle.std.specs.Prelude.{◌≡◌, ℕ, ◌+◌, ◌-◌, ◌==◌, nat_lt, ◌||◌, Bool, true, if◌then◌else◌, List, map, Option, Some, None, IsSome, slice_get, slice_set}
 use Rattle.std.specs.Option.{option_map}
-use Rattle.std.specs.List.{AllZip}
+use Rattle.std.specs.List.{All, AllZip}
 use Rattle.cl_post.specs.declared.event.Event.{Event}
 use Rattle.cl_post.specs.declared.event.Event.TheVariants.{Handle, Tick, Feed, Quiet}
 use Rattle.cl_ranked.specs.Slots.{slot_at}
@@ -29,6 +29,15 @@ IsSlotOf (Some kept) m = kept ≡ m
 -- of each packet that was emitted, the packet is kept, or its slot is empty
 abbrev pub AreKept : List (Option Message) → List Message → Type 0
 AreKept slots messages = AllZip IsSlotOf slots messages
+
+-- a slot is empty, or has a message to an actor that lives
+abbrev pub IsToLiving : ℕ → Option Message → Type 0
+IsToLiving living None = Unit {0}
+IsToLiving living (Some m) = is_living living m.to ≡ true
+
+-- each packet that is kept goes to an actor that lives
+abbrev pub AreToLiving : ℕ → List (Option Message) → Type 0
+AreToLiving living slots = All (IsToLiving living) slots
 
 -- the packet of this number is kept
 abbrev pub IsStillKept : List (Option Packet) → Event → Type 0

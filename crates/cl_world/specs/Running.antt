@@ -2,6 +2,7 @@
 use Rattle.std.specs.Prelude.{◌≡◌, Bool, true, List, [], ◌∷◌, ◌++◌, map, Result, Ok, Err}
 use Rattle.std.specs.List.{All}
 use Rattle.cl_post.specs.declared.event.Event.{Event}
+use Rattle.cl_ranges.specs.Spent.{IsUnspentRun}
 use Rattle.cl_runs.specs.World.{Shape, Run, Happening, IsRun, IsEnabled}
 use Rattle.cl_system.specs.System.{system}
 use Rattle.cl_types.specs.AppendOnlyList.{entries}
@@ -42,6 +43,7 @@ pub record HasRun (shape : Shape) (before after : World) (run : Run) (events : L
 -- what is left of a world that has made this run
 pub record IsLeftOf (shape : Shape) (made : World) (run : Run) : Type 0 where
   pub is_run : IsRun (system shape.nodes) shape run
+  pub unspent : IsUnspentRun shape run
   pub trace : run_of (entries made.trace) ≡ run
   pub left : IsLeftAt shape made (moment_after shape run)
 

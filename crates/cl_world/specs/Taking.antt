@@ -1,10 +1,11 @@
 -- What one event more makes of a world.
-use Rattle.std.specs.Prelude.{◌≡◌, ◌⊎◌, ℕ, Bool, true, List, [], ◌∷◌, ◌++◌, map, Option, Some, None, Result, Ok, Err}
+use Rattle.std.specs.Prelude.{◌≡◌, ◌⊎◌, ℕ, Bool, true, false, List, [], ◌∷◌, ◌++◌, map, Option, Some, None, Result, Ok, Err}
 use Rattle.cl_exchange.specs.Laws.{HappeningFits}
 use Rattle.cl_post.specs.declared.event.Event.{Event}
 use Rattle.cl_post.specs.declared.event.Event.TheVariants as events
 use Rattle.cl_post.specs.Steps.{Input}
 use Rattle.cl_post.specs.Steps as inputs
+use Rattle.cl_ranges.specs.Spent.{is_spent}
 use Rattle.cl_runs.specs.World.{Shape, Happening, handle, tick, feed, quiet, packet_at, after, IsEnabled}
 use Rattle.cl_steps.specs.declared.actors.TheConstants.{FRONT}
 use Rattle.cl_system.specs.System.{system}
@@ -17,9 +18,8 @@ use Rattle.cl_wire.specs.Message.{Message}
 use Rattle.cl_world.specs.Actors.{AreActors, AreOthersThere}
 use Rattle.cl_world.specs.FirmRoom.{firm_in}
 use Rattle.cl_world.specs.Happenings.{happening_of, run_of}
-use Rattle.cl_world.specs.Inputs.{is_input_spent}
 use Rattle.cl_world.specs.Mail.{messages_in, to_living, IsStillKept}
-use Rattle.cl_world.specs.World.{Moment, IsAt, IsWhole, living_in}
+use Rattle.cl_world.specs.World.{Moment, IsAt, IsFirstRoster, IsWhole, living_in}
 use Rattle.cl_world.specs.declared.world.World.{World}
 
 -- the actor whose step an event is
@@ -62,9 +62,9 @@ input_at moment (tick actor) = inputs.tick
 input_at moment (feed number text said) = inputs.feed number text said
 input_at moment quiet = inputs.quiet
 
--- the step of an event needs a number above its limit
+-- the event needs a number above its limit
 abbrev pub is_event_spent : Moment → Event → Bool
-is_event_spent moment event = is_input_spent (actor_of event) (moment.actors (actor_of event)) (input_at moment (happening_of event))
+is_event_spent moment event = is_spent moment (happening_of event)
 
 -- the system after an event with its mark
 abbrev pub moment_with : Shape → Moment → Event → Bool → Moment
@@ -91,15 +91,17 @@ pub record KeepsEmitted (shape : Shape) (before after : World) (from to : Moment
 -- the event was made
 pub record HasTaken (shape : Shape) (before after : World) (moment : Moment) (event : Event) : Type 0 where
   pub mark : Bool
+  pub unspent : is_event_spent moment event ≡ false
   pub now : IsAt shape after (moment_with shape moment event mark)
   pub whole : IsWhole shape after
   pub trace : run_of (entries after.trace) ≡ run_of (entries before.trace) ++ (happening_of event, mark) ∷ []
   pub keeps : KeepsEmitted shape before after moment (moment_with shape moment event mark)
 
--- what is left of a world after a refusal: the actors that are there, the front's transcript, the history
+-- what is left of a world after a refusal: the actors that are there, the front's transcript, the history, the roster
 pub record IsLeftAt (shape : Shape) (made : World) (moment : Moment) : Type 0 where
   pub actors : AreActors shape made.actors moment.actors
   pub history : firm_in made.firm ≡ moment.history
+  pub roster : IsFirstRoster shape made.roster
 
 -- the event was not made: its actor may be gone, and it is spent only where its step is
 pub record HasLost (shape : Shape) (before after : World) (moment : Moment) (event : Event) (refused : Refused) : Type 0 where
@@ -111,6 +113,7 @@ pub record HasLost (shape : Shape) (before after : World) (moment : Moment) (eve
 -- the event was made, but not all that it emitted could be kept
 pub record HasDropped (shape : Shape) (before after : World) (moment : Moment) (event : Event) (refused : Refused) : Type 0 where
   pub mark : Bool
+  pub unspent : is_event_spent moment event ≡ false
   pub left : IsLeftAt shape after (moment_with shape moment event mark)
   pub whole : IsWhole shape after
   pub trace : run_of (entries after.trace) ≡ run_of (entries before.trace) ++ (happening_of event, mark) ∷ []

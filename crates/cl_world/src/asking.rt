@@ -20,7 +20,7 @@ use cl_steps::FRONT;
 use cl_wire::Packet;
 
 /// Whether a line waits for a quiet moment: QUIET, so far.
-fn waits_for_quiet(text: &[u8]) -> bool
+pub fn waits_for_quiet(text: &[u8]) -> bool
     ensures { result ≡ is_operators (line_of text.now) }
 {
     text == b"QUIET".as_slice()

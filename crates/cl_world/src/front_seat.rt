@@ -21,7 +21,8 @@ impl FrontSeat {
     ghost use Rattle.cl_serial.specs.Transcript.{transcript_of};
     ghost use Rattle.cl_steps.specs.declared.actors.TheConstants.{FRONT};
     ghost use Rattle.cl_system.specs.System.{Core, quieted_core};
-    ghost use Rattle.cl_world.specs.Actors.{IsBareFront, IsFrontIn, IsFrontOf, IsFrontStep, IsResting, is_here, transcript_in, with_core};
+    ghost use Rattle.cl_world.specs.Actors.{IsBareFront, IsFrontIn, IsFrontOf, IsFrontStep, IsResting, is_here, with_core};
+    ghost use Rattle.cl_system.specs.System.{transcript_in};
     ghost use Rattle.cl_world.specs.Inputs.{input_of, InputFits, is_input_spent};
 
     /// Lets the front take a step. After a refusal it is gone, and its transcript is left as it was before.

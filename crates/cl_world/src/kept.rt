@@ -11,6 +11,7 @@ use crate::actors::Actors;
 use cl_front::Front;
 use cl_node::Node;
 use cl_post::Trace;
+use cl_roster::Roster;
 use cl_serial::{History, Transcript};
 
 /// What is taken out of a world. An actor that refused a step is not there.
@@ -19,6 +20,7 @@ pub struct Kept {
     pub transcript: Transcript,
     pub history: History,
     pub trace: Trace,
+    pub roster: Roster,
     /// The front, without its transcript.
     pub front: Option<Front>,
     /// Nodes first, then spares.
@@ -37,6 +39,7 @@ impl World {
             actors: Actors { front, members },
             firm,
             trace,
+            roster,
             ..
         } = self;
         let (transcript, front) = front.split();
@@ -44,6 +47,7 @@ impl World {
             transcript,
             history: firm.into_history(),
             trace,
+            roster,
             front,
             nodes: members,
         }

@@ -3,10 +3,12 @@
 
 mod actors;
 mod asking;
+mod auditing;
 mod firm;
 mod front_seat;
 mod given;
 mod kept;
+mod lines;
 mod mail;
 mod member;
 mod running;
@@ -14,5 +16,7 @@ mod stepping;
 mod taking;
 mod world;
 
+pub use asking::waits_for_quiet;
 pub use kept::Kept;
+pub use lines::LineList;
 pub use world::World;

@@ -107,6 +107,7 @@ impl World {
         requires firm { length (items outs.firm) ≤ firm_room self.old.firm }
         ensures nodes { self.new.nodes ≡ self.old.nodes }
         ensures spares { self.new.spares ≡ self.old.spares }
+        ensures roster { self.new.roster ≡ self.old.roster }
         ensures actors { self.new.actors ≡ self.old.actors }
         ensures firm { firm_in self.new.firm ≡ with_firm (firm_in self.old.firm) (items outs.firm) }
         ensures trace { entries self.new.trace ≡ entries self.old.trace ++ (event, outs.short) ∷ [] }

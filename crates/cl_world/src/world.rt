@@ -1,14 +1,15 @@
 //! The world: a run of the whole system, event by event.
-ghost use Rattle.std.specs.Prelude.{◌≡◌, [], IfOk, slice_get};
-ghost use Rattle.std.specs.Option.{option_map};
-ghost use Rattle.cl_ranked.specs.Slots.{kept};
+ghost use Rattle.std.specs.Prelude.{◌≡◌, ◌+◌, ◌-◌, [], IfOk, length, slice_get};
+ghost use Rattle.std.specs.Option.{option_copied, option_map};
+ghost use Rattle.cl_ranked.specs.Slots.{kept, slot_at};
 ghost use Rattle.cl_roster.specs.Roster.{IsClusterSize};
 ghost use Rattle.cl_runs.specs.World.{Shape, Run, IsLiving};
 ghost use Rattle.cl_endpoint.specs.Endpoint.{is_waiting};
 ghost use Rattle.cl_serial.specs.Transcript.{transcript_of};
 ghost use Rattle.cl_steps.specs.declared.actors.TheConstants.{FRONT};
 ghost use Rattle.cl_types.specs.GrowingList.{items};
-ghost use Rattle.cl_world.specs.Actors.{is_waiting_at, transcript_in};
+ghost use Rattle.cl_system.specs.System.{transcript_in};
+ghost use Rattle.cl_world.specs.Actors.{is_waiting_at};
 ghost use Rattle.cl_world.specs.Mail.{forgotten, on_way};
 ghost use Rattle.cl_world.specs.World.{IsWorldOf, IsWhole, moment_after};
 
@@ -17,12 +18,13 @@ use crate::firm::Firm;
 use crate::mail::forget_in;
 use cl_post::{Event, OutList, Trace};
 use cl_ranked::Ranked;
+use cl_roster::Roster;
 use cl_serial::Transcript;
 use cl_types::NoMemory;
 use cl_wire::Packet;
 use std::alloc::Global;
 
-/// A run of the whole system: the front and the nodes, the packets on their way, the history and the trace.
+/// A run of the whole system: the front and the nodes, the packets on their way, the history, the trace and the roster.
 ///
 /// Contracts see it by the run that it has made (`IsWorldOf`), of which the trace is the record. It makes what is asked of
 /// it and never chooses. A packet is kept until it is forgotten.
@@ -38,6 +40,8 @@ pub struct World {
     pub(crate) trace: Trace,
     pub(crate) lines: u64,
     pub(crate) quiet_now: bool,
+    // Nothing has happened in it so far.
+    pub(crate) roster: Roster,
 }
 
 impl World {
@@ -57,6 +61,7 @@ impl World {
             trace: Trace::new(alloc),
             lines: 0,
             quiet_now: false,
+            roster: Roster::new(alloc, nodes, spares),
         })
     }
 
@@ -76,6 +81,39 @@ impl World {
         let _added = self.mail.added();
         let (index, packet) = self.mail.nth(place as u64)?;
         Some((index + 1, packet.to))
+    }
+
+    /// The allocator that it was made with.
+    pub fn alloc(&self) -> Global {
+        self.alloc
+    }
+
+    /// How many nodes and spares there are.
+    pub fn members(&self) -> usize
+        ensures { (shape : Shape) (run : Run) → IsWorldOf shape self.now run → result ≡ shape.nodes + shape.spares }
+    {
+        self.actors.members.len()
+    }
+
+    /// How many events the run has.
+    pub fn events(&self) -> usize
+        ensures { (shape : Shape) (run : Run) → IsWorldOf shape self.now run → result ≡ length run }
+    {
+        self.trace.len()
+    }
+
+    /// How many packets are kept.
+    pub fn on_way(&self) -> u64
+        ensures { result ≡ length (kept self.now.mail) }
+    {
+        self.mail.count()
+    }
+
+    /// The packet of a number, where it is kept.
+    pub fn packet(&self, id: u64) -> Option<&Packet>
+        ensures { option_copied result ≡ slot_at self.now.mail (id - 1) }
+    {
+        self.mail.get(id.saturating_sub(1))
     }
 
     /// How many lines were fed.

@@ -1,10 +1,10 @@
-use Rattle.std.proofs.Common.{sym}
+use Rattle.std.proofs.Common.{sym, subst}
 use Rattle.cl_post.specs.Steps.{IsSpentWhere}
 use Rattle.cl_world.specs.Actors.{MayAct, IsActorStep}
 use Rattle.cl_world.specs.Inputs.{input_of, is_input_spent}
 use Rattle.cl_world.specs.Happenings.{happening_of}
 use Rattle.cl_world.specs.Taking.{actor_of, input_at}
-use Rattle.cl_world.proofs.Takes.{along, may_act}
+use Rattle.cl_world.proofs.Takes.{along, may_act, step_spends}
 use Rattle.cl_world.proofs.world.World.act.Goals as goal
 
 pub step-requires : goal.step-requires
@@ -33,5 +33,7 @@ returns-clause-spent c = λ shape moment at may.
     let event = c.args.event.now in
     let mine = along (MayAct shape c.args.self.now.actors moment.actors) (actor_of event) c.actor_in.result (input_at moment (happening_of event)) (input_of c.given_by-given.result)
     (sym c.actor_in.ensures) (sym (c.given_by-given.ensures moment at.mail)) (may_act shape c.args.self.now moment event c.requires.step at may) in
-    along (λ a i. IsSpentWhere (is_input_spent a (moment.actors a) i) c.step.result) c.actor_in.result (actor_of event) (input_of c.given_by-given.result) (input_at moment (happening_of event))
-    c.actor_in.ensures (c.given_by-given.ensures moment at.mail) (c.step.ensures.spent shape moment.actors mine)
+    subst (λ b. IsSpentWhere b c.step.result) (step_spends moment event c.requires.step)
+    (along (λ a i. IsSpentWhere (is_input_spent a (moment.actors a) i) c.step.result) c.actor_in.result (actor_of event)
+    (input_of c.given_by-given.result) (input_at moment (happening_of event))
+    c.actor_in.ensures (c.given_by-given.ensures moment at.mail) (c.step.ensures.spent shape moment.actors mine))

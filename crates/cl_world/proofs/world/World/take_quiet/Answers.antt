@@ -13,4 +13,5 @@ returns c = λ shape moment at may.
     let before = entries c.args.self.now.trace in
     let noted : List (Event × Bool) = (events.Quiet, false) ∷ [] in
     let trace = ap run_of (c.push_reserved.ensures.entries ∙ ap (λ es. es ++ noted) c.reserve.ensures.entries) ∙ map-append marked_of before noted in
-    quiet_taken shape c.args.self.now _ moment at may refl refl refl refl refl refl refl trace (c.in_ok-quiet.ensures.ok (moment.actors FRONT) at.actors.front) c.in_ok-quiet.ensures.here
+    quiet_taken shape c.args.self.now _ moment at may refl refl refl refl refl refl refl refl trace
+    (c.in_ok-quiet.ensures.ok (moment.actors FRONT) at.actors.front) c.in_ok-quiet.ensures.here

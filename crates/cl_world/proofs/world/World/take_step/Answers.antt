@@ -32,7 +32,8 @@ returns-in-Err c = λ shape moment at may.
     let acted = c.in_ok-outs.ensures.step shape moment roomy (may_with shape c.args.self.now c.reserve.new.self moment c.args.event.now may) in
     let ne = not_the_front shape c.args.self.now c.act.new.self moment c.args.event.now c.in_ok-outs.outs c.len.result (firm_room c.act.new.self.firm) at may acted c.len.ensures (λ le. false≢true (c.in-Err.ensures.roomy le)) in
     inl (gives_up shape c.args.self.now c.act.new.self _ moment c.args.event.now c.in_ok-outs.outs c.actor_in.result c.requires.step at may acted ne c.actor_in.ensures c.lose.ensures
-    (c.in-Err.ensures.same ∙ ap (λ (w : World). firm_in w.firm) c.act.ensures.same) (ap (λ (w : World). entries w.trace) c.act.ensures.same ∙ c.reserve.ensures.entries))
+    (c.in-Err.ensures.same ∙ ap (λ (w : World). firm_in w.firm) c.act.ensures.same) (ap (λ (w : World). w.roster) c.act.ensures.same)
+    (ap (λ (w : World). entries w.trace) c.act.ensures.same ∙ c.reserve.ensures.entries))
 
 pub returns : goal.returns
 returns c = λ shape moment at may.
@@ -43,6 +44,7 @@ returns c = λ shape moment at may.
     let same = c.act.ensures.same in
     let roomy = at_with shape before c.reserve.new.self moment at in
     let acted = c.in_ok-outs.ensures.step shape moment roomy (may_with shape before c.reserve.new.self moment event may) in
+    let unspent = c.in_ok-outs.ensures.spent shape moment roomy (may_with shape before c.reserve.new.self moment event may) in
     let now = subst (λ all. HasActed shape all moment.actors (actor_of event) (input_at moment (happening_of event)) outs) (sym c.note.ensures.actors) acted in
     let entry : List (Event × Bool) = (c.in_ok-noted.noted, outs.short) ∷ [] in
     let noted : IsNoted before after event outs = record {
@@ -53,10 +55,11 @@ returns c = λ shape moment at may.
           ∙ map-append marked_of (entries before.trace) entry ∙ ap (λ (h : Happening). run_of (entries before.trace) ++ (h, outs.short) ∷ []) c.in_ok-noted.ensures;
       lines = c.note.ensures.lines ∙ c.lines_after.ensures ∙ ap (λ (w : World). lines_with w.lines event) same;
       quiet = c.note.ensures.quiet;
+      roster = c.note.ensures.roster ∙ ap (λ (w : World). w.roster) same;
     } in
     let given = map message_of outs.packets.items in
     let living = length c.act.new.self.actors.members.items in
     let keeps = if_ok _ (KeepsOuts shape before after outs) c.note.result
     (λ e. e ∙ ap (λ (w : World). messages_in w.mail ++ map (to_living living) given) same ∙ ap (λ n. messages_in before.mail ++ map (to_living n) given) acted.after.counted) c.note.ensures.mail in
     subst (λ r. IsTaken shape before after moment event r) (sym c.as_refused.ensures)
-    (noted_result shape before after moment event outs c.note.result c.requires.step at may now noted keeps)
+    (noted_result shape before after moment event outs c.note.result c.requires.step at may unspent now noted keeps)

@@ -1,0 +1,16 @@
+use Rattle.std.proofs.Common.{◌+◌, ◌<◌, arith}
+use Rattle.cl_world.specs.World.{moment_after}
+use Rattle.cl_world.proofs.Audits.{counted_more, has_primary}
+use Rattle.cl_world.proofs.world.World.audit.Goals as goal
+
+pub loop-v-preserved : goal.loop-v-preserved
+loop-v-preserved c = record {
+  few = omega (arith, c.loop-v.invariant.few, c.live_at-live.ensures.few);
+  counted = λ shape run made whole.
+      let v = c.loop-v.v in
+      let within : v < shape.nodes = omega (arith, c.loop-v-test.true, c.nodes-nodes.ensures.nodes, made.now.roster.nodes) in
+      let lives : v < shape.nodes + shape.spares = omega (arith, within) in
+      counted_more (moment_after shape run) v c.loop-v.live c.live_at-live.result (c.loop-v.invariant.counted shape run made whole)
+      (c.live_at-live.ensures.live ((moment_after shape run).actors v) (made.now.actors.members v lives)
+      (whole.members v lives) (has_primary shape run v made.now.size made.is_run within));
+}
