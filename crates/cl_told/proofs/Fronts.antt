@@ -106,16 +106,16 @@ module _ (shape : Shape) (s : ℕ) (below : s % shape.nodes < ACTORS) (view : Se
 -- ---- one command more of the session
 
 -- a session without an outstanding command at a stage
-record IsFreeView (view : SessionView) (left : List ClientCommand) (told : Session) : Type 0 where
-  commands : view.commands ≡ []
-  left_is : left ≡ []
-  is : IsFree told view.session view.session.current
+pub record IsFreeView (view : SessionView) (left : List ClientCommand) (told : Session) : Type 0 where
+  pub commands : view.commands ≡ []
+  pub left_is : left ≡ []
+  pub is : IsFree told view.session view.session.current
 
 module _ (nodes s : ℕ) (view : SessionView) (transcript : List TranscriptEntry) (is : IsToldView nodes s view transcript) where
   not_busy : (current : Current) → is_outstanding view.session ≡ false → IsInTransaction view current true → ⊥
   not_busy current free inside = true≢false (sym inside.waits ∙ (sym (ap is_outstanding_in inside.inside) ∙ free))
 
-  free_view : (stage : Stage) → IsAt nodes s view stage → is_outstanding view.session ≡ false → IsFreeView view is.left is.told
+  pub free_view : (stage : Stage) → IsAt nodes s view stage → is_outstanding view.session ≡ false → IsFreeView view is.left is.told
   free_view outside at free =
       let tells = is.tells outside at in
       record { commands = at.1.commands; left_is = tells.0; is = subst (IsFree is.told view.session) (sym at.0) tells.1 }

@@ -5,4 +5,4 @@ pub mod Feeding
 pub mod Controllers
 pub mod Delivered
 pub mod Events
-mod Runs
+pub mod Runs

@@ -55,7 +55,7 @@ module _ (told : Session) (exchange : Exchange) where
   unfolding session_step
   step_some transaction is = ap (λ current. session_step (record { ended = told.ended; current = current }) exchange) is
 
-same_session : (told : Session) (current : Option Transaction) → told.current ≡ current → record { ended = told.ended; current = current } ≡ told
+pub same_session : (told : Session) (current : Option Transaction) → told.current ≡ current → record { ended = told.ended; current = current } ≡ told
 same_session told current is = λ i. record { ended = told.ended; current = sym is i }
 
 -- a command that is answered at once is passed over
@@ -82,7 +82,7 @@ module _ (told : Session) (session : SessionState) (line at : ℕ) where
   passed_inside Commit current outcome transaction is some = absurd cc
   passed_inside Abort current outcome transaction is some = absurd cc
 
-  passed : (current : Option Current) (command : Command) (outcome : Outcome) → next_current current command ≡ Err outcome → IsFree told session current → session_step told (answered (command, line) (outcome, at)) ≡ told
+  pub passed : (current : Option Current) (command : Command) (outcome : Outcome) → next_current current command ≡ Err outcome → IsFree told session current → session_step told (answered (command, line) (outcome, at)) ≡ told
   passed None command outcome is free = passed_outside command outcome is free.current
   passed (Some current) command outcome is free = passed_inside command current outcome free.0 is free.1.current
 
@@ -143,7 +143,7 @@ module _ (noted : Noted) (s : ℕ) where
   }
 
   -- the transcript without an entry more
-  nothing_more : (transcript : List TranscriptEntry) (left : List Command) (told : Session) → Shows s transcript left told → Shows s (transcript ++ []) left told
+  pub nothing_more : (transcript : List TranscriptEntry) (left : List Command) (told : Session) → Shows s transcript left told → Shows s (transcript ++ []) left told
   nothing_more transcript left told shows = subst (λ list. Shows s list left told) (sym (append-nil transcript)) shows
 
   first_turn : (session : SessionState) (command : Command) (transcript : List TranscriptEntry) (told : Session) → Shows s transcript (command ∷ session.waiting) told → IsFree told session session.current →
@@ -177,7 +177,7 @@ module _ (noted : Noted) (s : ℕ) where
 
 -- ---- an outcome
 
-after_free : (outcome : Outcome) (current : Option Current) → is_outstanding_in (current_after outcome current) ≡ false
+pub after_free : (outcome : Outcome) (current : Option Current) → is_outstanding_in (current_after outcome current) ≡ false
 after_free outcome None = refl
 after_free Committed (Some current) = refl
 after_free (Aborted cause) (Some current) = refl
@@ -194,7 +194,7 @@ module _ (told : Session) (session other : SessionState) (current : Current) (sa
   one_ended transaction n exchange is =
       record { current = refl; number = same ∙ (is.begun ∙ sym (length-append told.ended (with_command transaction exchange ∷ []))) }
 
-  answered_told : (what : Command) (outcome : Outcome) → IsOutcomeOf what outcome → IsToldOutstanding told session current what →
+  pub answered_told : (what : Command) (outcome : Outcome) → IsOutcomeOf what outcome → IsToldOutstanding told session current what →
       IsFree (session_step told (answered (what, line) (outcome, at))) other (current_after outcome (Some current))
   answered_told Begin Begun fits is =
       let exchange : Exchange = answered (Begin, line) (Begun, at) in

@@ -1,0 +1,10 @@
+pub mod Orders
+pub mod Lawful
+pub mod Fitting
+pub mod Answered
+pub mod Gathers
+pub mod Entries
+pub mod Fronts
+pub mod Events
+pub mod Rests
+pub mod Runs
