@@ -51,9 +51,9 @@ use Rattle.cl_commit.proofs.Working.{good-work}
 use Rattle.cl_commit.proofs.Worlds.{lives-left}
 
 -- commits are whole after, and what was settled is so
-record IsKept (shape : Shape) (before after : ReplicaWorld) : Type 0 where
-  whole : CommitsWhole shape after
-  settled : (txn : TxnId) → KeepsSettled shape.nodes before after txn
+pub record IsKept (shape : Shape) (before after : ReplicaWorld) : Type 0 where
+  pub whole : CommitsWhole shape after
+  pub settled : (txn : TxnId) → KeepsSettled shape.nodes before after txn
 
 module _ (shape : Shape) (size : IsClusterSize shape.nodes shape.spares) (world : ReplicaWorld) (sound : IsSoundWorld shape world) (whole : CommitsWhole shape world) where
   few : shape.nodes ≤ 8
@@ -223,7 +223,7 @@ module _ (shape : Shape) (size : IsClusterSize shape.nodes shape.spares) (world 
       quiet-outcomes : (v : ℕ) → All (IsTrueOutcome shape world) (world.mail v FRONT) → All (IsTrueOutcome shape (record world { front = quiet_front world.front })) (world.mail v FRONT)
       quiet-outcomes v all = λ k d h. outcome-stays shape world (record world { front = quiet_front world.front }) stays _ (all k d h)
 
-  event-kept : (event : QueueEvent) → MayReplicas world event → IsKept shape world (after_replica_event shape world event)
+  pub event-kept : (event : QueueEvent) → MayReplicas world event → IsKept shape world (after_replica_event shape world event)
   unfolding after_replica_event
   event-kept (deliver from to mark) may =
       subst (λ queue. IsKept shape world (after_first shape world from to mark queue)) (sym may.2) (kept-delivery from to mark may.0 may.1 may.2)

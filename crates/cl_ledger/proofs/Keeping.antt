@@ -18,7 +18,7 @@ pub record KeepsLog (ledger : Ledger) (v : ℕ) (state : State) : Type 0 where
   pub log : ledger.logs v ≡ state.log
 
 -- such a participant is that of its virtual node
-IsAt-keeps : (ledger : Ledger) (v : ℕ) (state : State) → KeepsLog ledger v state → IsAt ledger v state
+pub IsAt-keeps : (ledger : Ledger) (v : ℕ) (state : State) → KeepsLog ledger v state → IsAt ledger v state
 IsAt-keeps ledger v state at = subst (λ log. IsReplicaOf log state) (sym at.log) at.sound
 
 -- an end as long as the list is the whole list

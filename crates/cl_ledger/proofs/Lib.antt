@@ -1,10 +1,10 @@
-mod Keeping
+pub mod Keeping
 mod Reaching
 mod Ending
 mod Entries
 mod Worlds
-mod Standings
+pub mod Standings
 mod Fronts
-mod Messages
-mod Events
-mod Runs
+pub mod Messages
+pub mod Events
+pub mod Runs

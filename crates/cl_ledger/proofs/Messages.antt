@@ -47,7 +47,7 @@ named_of_phase : (found : Option Entry) (phase : Phase) → option_map (λ (entr
 named_of_phase None phase is = absurd (let e : ◌≡◌ {A = Option Phase} None (Some phase) = is in cc)
 named_of_phase (Some entry) phase is = (entry, refl)
 
-decides_open : (control : ControlState) (txn : TxnId) (number : ℕ) (what : ClientCommand) → MayCommand control txn what → has_decide (command_acts control txn number what) ≡ true →
+pub decides_open : (control : ControlState) (txn : TxnId) (number : ℕ) (what : ClientCommand) → MayCommand control txn what → has_decide (command_acts control txn number what) ≡ true →
     (entry : Entry) × (entry_of control txn ≡ Some entry)
 unfolding command_acts
 decides_open control txn number Begin may decides = absurd (let e : false ≡ true = decides in cc)
@@ -55,7 +55,7 @@ decides_open control txn number (Work table key op) may decides = named_of_phase
 decides_open control txn number Commit may decides = named_of_phase (entry_of control txn) Idle may
 decides_open control txn number Abort may decides = named_of_phase (entry_of control txn) Idle may
 
-counts_open : (found : Option Entry) (w : ℕ) → option_map_or (awaits_vote w) found false ≡ true → (entry : Entry) × (found ≡ Some entry)
+pub counts_open : (found : Option Entry) (w : ℕ) → option_map_or (awaits_vote w) found false ≡ true → (entry : Entry) × (found ≡ Some entry)
 counts_open None w counts = absurd (let e : false ≡ true = counts in cc)
 counts_open (Some entry) w counts = (entry, refl)
 

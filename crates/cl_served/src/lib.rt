@@ -1,0 +1,6 @@
+//! What every run serves: its history explains its transcript. Definitions and laws, and no other code.
+#![tactic(auto)]
+
+mod laws;
+
+pub use laws::{ledgers_are_shown, runs_are_serializable};
