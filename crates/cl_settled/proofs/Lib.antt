@@ -1,0 +1,7 @@
+mod Breaking
+mod Growing
+mod Going
+mod Turning
+mod Runs
+mod Replicas
+mod Agreeing
