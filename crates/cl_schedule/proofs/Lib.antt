@@ -1,0 +1,9 @@
+mod Notes
+mod Happens
+mod Resting
+mod Choices
+mod Chosen
+mod Mays
+mod Turned
+mod Waits
+mod Scheduled

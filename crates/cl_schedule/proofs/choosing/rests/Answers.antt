@@ -1,0 +1,6 @@
+use Rattle.cl_world.specs.World.{moment_after}
+use Rattle.cl_schedule.proofs.Resting.{quiet_is}
+use Rattle.cl_schedule.proofs.choosing.rests.Goals as goal
+
+pub returns : goal.returns
+returns c = λ shape run sound. quiet_is shape (moment_after shape run) c.quiet.result (c.quiet.ensures shape run sound.is sound.whole)
