@@ -13,4 +13,4 @@ mod Numbers
 mod Refusals
 mod Events
 mod Ended
-mod Runs
+pub mod Runs

@@ -4,4 +4,4 @@ mod Going
 mod Turning
 mod Runs
 mod Replicas
-mod Agreeing
+pub mod Agreeing

@@ -1,4 +1,9 @@
-pub mod FedLines
-pub mod Inputs
-pub mod Runs
-pub mod Ran
+mod Asked
+mod EveryRun
+mod Feeds
+mod Guaranteed
+mod Inputs
+mod Rests
+mod Served
+mod Waiting
+mod Written

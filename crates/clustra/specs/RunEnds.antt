@@ -1,17 +1,25 @@
--- How a run ends: what it did with its source and its sink, and what is kept of it. The top call says the same, clause by clause.
-use Rattle.std.specs.Prelude.{◌≡◌, ℕ, ◌≤◌, ◌⊎◌, List, [], Option}
+-- How a run ends: what it did with its source and its sink, and what is kept of it.
+use Rattle.std.specs.Prelude.{◌≡◌, ℕ, ◌<◌, ◌≤◌, ◌⊎◌, Bool, List, [], ◌++◌, Option, None, IsSome, length, slice_index_or}
 use Rattle.std.specs.Io.KnownBytes.{IsAtEnd}
-use Rattle.cl_types.specs.declared.operations.TxnId.{TxnId}
+use Rattle.cl_causes.specs.Causes.{TrueCauses}
 use Rattle.cl_io.specs.Faults.{one_more}
-use Rattle.cl_serial.specs.Transcript.{TranscriptEntry, full_text}
-use Rattle.cl_sessions.specs.Explains.{Explains}
-use Rattle.clustra.specs.Run.{ReadsInput, WritesText, WritesAll}
-use Rattle.clustra.specs.declared.ended.TheConstants.{DONE, READ_FAULT, WRITE_FAULT, TOO_MUCH_INPUT, NO_MEMORY}
+use Rattle.cl_runs.specs.World.{Shape, Run, IsRun}
+use Rattle.cl_schedule.specs.declared.setting.Setting.{Setting}
+use Rattle.cl_serial.specs.Serial.{Serializable, EveryLineAnswered}
+use Rattle.cl_serial.specs.Transcript.{transcript_of}
+use Rattle.cl_settled.specs.Replicas.{history_after, IsReplicaAfter}
+use Rattle.cl_settled.specs.Settled.{AgreesWithHistory}
+use Rattle.cl_shown.specs.Shown.{transcript_after}
+use Rattle.cl_system.specs.System.{system}
+use Rattle.cl_types.specs.AppendOnlyList.{entries}
+use Rattle.cl_vnode.specs.Replica.{ReplicaState}
+use Rattle.cl_world.specs.Left.{IsKeptOf}
+use Rattle.cl_world.specs.declared.kept.Kept.{Kept}
+use Rattle.clustra.specs.Run.{ReadsInput, WritesText, WritesAll, cluster, texts_in, full_text_with}
+use Rattle.clustra.specs.declared.ended.TheConstants.{DONE, READ_FAULT, WRITE_FAULT, TOO_MUCH_INPUT, NO_MEMORY, UNFINISHED, SPENT}
 
 -- what a run that ended with this status did with its source, by what the source tells
-pub record EndsSource {S : Type 0} (left_of : S → Option (List ℕ)) (faults_of : S → ℕ) (before after : S) (status : ℕ) (transcript : List TranscriptEntry) : Type 0 where
-  -- the lines in the transcript are lines that were read
-  pub read : ReadsInput status (left_of before) (left_of after) transcript
+pub record EndsSource {S : Type 0} (left_of : S → Option (List ℕ)) (faults_of : S → ℕ) (before after : S) (status : ℕ) : Type 0 where
   -- a run that is done has read the source to its end
   pub end : status ≡ DONE → IsAtEnd (left_of after)
   -- a read that failed was counted once, and nothing else was
@@ -24,26 +32,49 @@ pub record EndsSink {K : Type 0} (written_of flushed_of : K → Option (List ℕ
   -- a first part of the text was written
   pub written : WritesText (written_of before) (written_of after) text
   -- all of it at these statuses
-  pub all : (status ≡ DONE) ⊎ ((status ≡ READ_FAULT) ⊎ (status ≡ TOO_MUCH_INPUT)) → WritesAll (written_of before) (written_of after) text
+  pub all : (status ≡ DONE) ⊎ ((status ≡ READ_FAULT) ⊎ ((status ≡ TOO_MUCH_INPUT) ⊎ (status ≡ UNFINISHED))) → WritesAll (written_of before) (written_of after) text
   -- the sink is as it was at these
-  pub unwritten : (status ≡ READ_FAULT) ⊎ ((status ≡ TOO_MUCH_INPUT) ⊎ (status ≡ NO_MEMORY)) → after ≡ before
-  -- a run that is done has flushed what it wrote
-  pub flushed : status ≡ DONE → flushed_of after ≡ written_of after
+  pub unwritten : (status ≡ READ_FAULT) ⊎ ((status ≡ TOO_MUCH_INPUT) ⊎ ((status ≡ NO_MEMORY) ⊎ (status ≡ SPENT))) → after ≡ before
+  -- a run that ends as it should has flushed what it wrote
+  pub flushed : (status ≡ DONE) ⊎ (status ≡ UNFINISHED) → flushed_of after ≡ written_of after
   -- a write or a flush that failed was counted once, and nothing else was
   pub write_fault : status ≡ WRITE_FAULT → faults_of after ≡ one_more (faults_of before)
   pub unfaulted : (status ≡ WRITE_FAULT → ⊥) → faults_of after ≡ faults_of before
   pub counted : faults_of before ≤ faults_of after
 
--- a run that ended with this status: its transcript and its history explain what it read and wrote
+-- the guarantee, after a run: the history explains the transcript, and each replica has what the history says
+pub record IsGuaranteed (shape : Shape) (run : Run) : Type 0 where
+  pub serializable : Serializable (transcript_after shape run) (history_after shape run)
+  pub replicas : (v : ℕ) (replica : ReplicaState) → IsReplicaAfter shape run v replica →
+      AgreesWithHistory (transcript_after shape run) (history_after shape run) shape.nodes v replica.part
+
+-- all actors are there
+pub record HasAllActors (kept : Kept) : Type 0 where
+  pub front : IsSome kept.front
+  pub nodes : (actor : ℕ) → actor < length kept.nodes.items → IsSome (slice_index_or kept.nodes.items actor None)
+
+-- a run that ended with this status, and what is kept of it
 pub record Ran {S K : Type 0} (left_of : S → Option (List ℕ)) (source_faults : S → ℕ) (written_of flushed_of : K → Option (List ℕ)) (sink_faults : K → ℕ)
-    (source_before source_after : S) (sink_before sink_after : K) (status : ℕ) : Type 0 where
-  pub transcript : List TranscriptEntry
-  pub history : List TxnId
-  -- the history explains the transcript
-  pub explained : Explains transcript history
+    (source_before source_after : S) (sink_before sink_after : K) (setting : Setting) (status : ℕ) (kept : Kept) : Type 0 where
+  -- the trace is a run of the cluster, and the rest is what that run has left
+  pub run : Run
+  pub is_run : IsRun (system cluster.nodes) cluster run
+  pub left : IsKeptOf cluster kept run
+  pub there : (status ≡ NO_MEMORY → ⊥) → (status ≡ SPENT → ⊥) → HasAllActors kept
+  -- the kept history explains the kept transcript
+  pub serializable : Serializable (transcript_of kept.transcript) (entries kept.history)
+  -- so it was after each first part of the run
+  pub at_each : (front back : Run) → run ≡ front ++ back → IsGuaranteed cluster front
+  -- each cause of an abort is true
+  pub causes : TrueCauses cluster run
+  -- a run that is done has answered every line
+  pub answered : status ≡ DONE → EveryLineAnswered (transcript_of kept.transcript)
   -- after a read that failed and after too much input nothing was fed
-  pub nothing_fed : (status ≡ READ_FAULT) ⊎ (status ≡ TOO_MUCH_INPUT) → (transcript ≡ []) × (history ≡ [])
-  -- the transcript is of the lines that were read
-  pub source_ends : EndsSource left_of source_faults source_before source_after status transcript
+  pub nothing_fed : (status ≡ READ_FAULT) ⊎ (status ≡ TOO_MUCH_INPUT) → run ≡ []
+  -- the run is made of the lines that were read, turn by turn
+  pub read : List ℕ
+  pub unfinished : Bool
+  pub reads : ReadsInput setting status (left_of source_before) (left_of source_after) read run (transcript_of kept.transcript) unfinished
+  pub source_ends : EndsSource left_of source_faults source_before source_after status
   -- and its text is what was written
-  pub sink_ends : EndsSink written_of flushed_of sink_faults sink_before sink_after status (full_text transcript)
+  pub sink_ends : EndsSink written_of flushed_of sink_faults sink_before sink_after status (full_text_with (texts_in read) (transcript_of kept.transcript) unfinished)

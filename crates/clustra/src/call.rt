@@ -1,34 +1,47 @@
-//! The top call of the program.
-ghost use Rattle.std.specs.Prelude.{◌≡◌, ◌≤◌, ◌⊎◌, ◌↔◌, true, false, [], map, None, IsSome, IfSome, string_bytes};
-ghost use Rattle.cl_types.specs.AppendOnlyList.{entries};
-ghost use Rattle.cl_io.specs.Faults.{one_more};
-ghost use Rattle.std.specs.Io.KnownBytes.{IsAtEnd};
-ghost use Rattle.cl_serial.specs.Transcript.{transcript_of, full_text};
-ghost use Rattle.cl_serial.specs.Serial.{OpenRepliesAgree, Serializable, EveryLineAnswered};
-ghost use Rattle.cl_serial.specs.Causes.{TrueCauses};
-ghost use Rattle.clustra.specs.Run.{AreServe, ReadsInput, WritesText, WritesAll, IsEndStatus};
+//! The top calls of the program.
+ghost use Rattle.std.specs.Prelude.{◌≡◌, ◌⊎◌, ◌↔◌, map, None, IfSome, IsSome, string_bytes};
+ghost use Rattle.cl_schedule.specs.declared.setting.Setting.{Setting};
+ghost use Rattle.clustra.specs.Run.{IsEndStatus};
+ghost use Rattle.clustra.specs.RunEnds.{Ran};
+ghost use Rattle.clustra.specs.Words.{AreServe, AreReplay};
 
-use crate::ended::{DONE, Ended, NO_MEMORY, READ_FAULT, TOO_MUCH_INPUT, USAGE, WRITE_FAULT};
+use crate::ended::{Ended, NO_MEMORY, USAGE};
 use crate::serving::serve;
+use crate::words::{replay_setting, serve_setting};
 use cl_io::{Gate, Sink, Source};
+use cl_schedule::Setting;
 use std::alloc::Global;
 use std::sync::Wait;
 use std::thread::Threads;
 
-// Whether the words are the one word `serve`.
-fn are_serve(words: &[String]) -> bool
-    ensures serve { result ≡ true → AreServe (map string_bytes words.now) }
-    ensures other { result ≡ false → AreServe (map string_bytes words.now) → ⊥ }
+// Makes the run that the words ask for, if they ask for one.
+fn serve_words<S: Source, K: Sink>(
+    alloc: Global,
+    setting: Option<Setting>,
+    source: &mut S,
+    sink: &mut K,
+) -> Ended
+    ensures usage { (result.status ≡ USAGE) ↔ (setting ≡ None) }
+    ensures untouched { result.kept ≡ None → (source.new ≡ source.old) × (sink.new ≡ sink.old) × ((result.status ≡ USAGE) ⊎ (result.status ≡ NO_MEMORY)) }
+    ensures unkept { result.status ≡ USAGE → result.kept ≡ None }
+    ensures status { (result.status ≡ USAGE → ⊥) → IsEndStatus result.status }
+    ensures asked { IfSome result.kept (λ _. IsSome setting) }
+    ensures ran { IfSome setting (λ setting. IfSome result.kept (λ kept.
+        Ran S.left S.faults K.written K.flushed K.faults source.old source.new sink.old sink.new setting result.status kept)) }
 {
-    match words {
-        [word] => word.as_str() == "serve",
-        _ => false,
+    match setting {
+        Some(setting) => serve(alloc, &setting, source, sink),
+        None => Ended {
+            status: USAGE,
+            kept: None,
+        },
     }
 }
 
-/// Runs the server on the words of its command line: `serve` and nothing else.
+/// Serves the lines of the source on a cluster: `serve`, or `serve --step`, which notes a quiet moment before each line.
 ///
-/// Its status is one of the constants beside `Ended`, from `DONE` to `NO_MEMORY`.
+/// The cluster has `NODES` nodes and `SPARES` spares, and a run at most `TURNS_MAX` turns. The status is one of the
+/// constants beside `Ended`.
 pub fn clustra<R: Threads + Wait + Sync, S: Source, K: Sink, G: Gate + Sync>(
     _rt: &R,
     alloc: Global,
@@ -37,56 +50,40 @@ pub fn clustra<R: Threads + Wait + Sync, S: Source, K: Sink, G: Gate + Sync>(
     sink: &mut K,
     _gate: &G,
 ) -> Ended
-    // Words other than `serve` are refused, and then nothing is read or written.
-    ensures usage { (result.status ≡ USAGE) ↔ (AreServe (map string_bytes words.now) → ⊥) }
-    ensures untouched { result.status ≡ USAGE → (source.new ≡ source.old) × (sink.new ≡ sink.old) × (result.kept ≡ None) }
-    ensures kept { (result.status ≡ USAGE → ⊥) → IsSome result.kept }
+    // Words that are not those of `serve` are refused, and then nothing is read or written.
+    ensures usage { (result.status ≡ USAGE) ↔ ((setting : Setting) → AreServe (map string_bytes words.now) setting → ⊥) }
+    ensures untouched { result.kept ≡ None → (source.new ≡ source.old) × (sink.new ≡ sink.old) × ((result.status ≡ USAGE) ⊎ (result.status ≡ NO_MEMORY)) }
+    ensures unkept { result.status ≡ USAGE → result.kept ≡ None }
     ensures status { (result.status ≡ USAGE → ⊥) → IsEndStatus result.status }
 
-    // The kept history explains the kept transcript, one transaction after another.
-    ensures serializable { IfSome result.kept (λ kept. Serializable (transcript_of kept.transcript) (entries kept.history)) }
-
-    // A transaction that has not ended replies on the map after the history, and each ABORTED names a true cause.
-    ensures open_replies { IfSome result.kept (λ kept. OpenRepliesAgree (transcript_of kept.transcript) (entries kept.history)) }
-    ensures causes { IfSome result.kept (λ kept. TrueCauses (transcript_of kept.transcript)) }
-
-    // Every client's line and every faulty line that was fed is answered. After a read that failed and after too much
-    // input none was fed.
-    ensures answered { IfSome result.kept (λ kept. EveryLineAnswered (transcript_of kept.transcript)) }
-    ensures nothing_fed { IfSome result.kept (λ kept. (result.status ≡ READ_FAULT) ⊎ (result.status ≡ TOO_MUCH_INPUT)
-        → (transcript_of kept.transcript ≡ []) × (entries kept.history ≡ [])) }
-
-    // The transcript is of the lines that were read, and its text is what was written.
-    ensures read { IfSome result.kept (λ kept.
-        ReadsInput result.status (S.left source.old) (S.left source.new) (transcript_of kept.transcript)) }
-    ensures written { IfSome result.kept (λ kept.
-        WritesText (K.written sink.old) (K.written sink.new) (full_text (transcript_of kept.transcript))) }
-    ensures all { IfSome result.kept (λ kept. (result.status ≡ DONE) ⊎ ((result.status ≡ READ_FAULT) ⊎ (result.status ≡ TOO_MUCH_INPUT))
-        → WritesAll (K.written sink.old) (K.written sink.new) (full_text (transcript_of kept.transcript))) }
-    ensures unwritten { (result.status ≡ READ_FAULT) ⊎ ((result.status ≡ TOO_MUCH_INPUT) ⊎ (result.status ≡ NO_MEMORY)) → sink.new ≡ sink.old }
-
-    // A run that is done has flushed what it wrote.
-    ensures flushed { result.status ≡ DONE → K.flushed sink.new ≡ K.written sink.new }
-
-    // Each status has its cause.
-    ensures end { result.status ≡ DONE → IsAtEnd (S.left source.new) }
-    ensures read_fault { result.status ≡ READ_FAULT → S.faults source.new ≡ one_more (S.faults source.old) }
-    ensures write_fault { result.status ≡ WRITE_FAULT → K.faults sink.new ≡ one_more (K.faults sink.old) }
-
-    // The first fault ends the run: at every other status no call of that end failed.
-    ensures read_unfaulted { (result.status ≡ READ_FAULT → ⊥) → S.faults source.new ≡ S.faults source.old }
-    ensures write_unfaulted { (result.status ≡ WRITE_FAULT → ⊥) → K.faults sink.new ≡ K.faults sink.old }
-    ensures counted { (S.faults source.old ≤ S.faults source.new) × (K.faults sink.old ≤ K.faults sink.new) }
+    // What is kept is of a run that the words ask for, and has all that the guarantee says.
+    ensures asked { IfSome result.kept (λ _. (setting : Setting) × AreServe (map string_bytes words.now) setting) }
+    ensures ran { (setting : Setting) → AreServe (map string_bytes words.now) setting → IfSome result.kept (λ kept.
+        Ran S.left S.faults K.written K.flushed K.faults source.old source.new sink.old sink.new setting result.status kept) }
 {
-    if !are_serve(words) {
-        return Ended {
-            status: USAGE,
-            kept: None,
-        };
-    }
-    let (status, kept) = serve(alloc, source, sink);
-    Ended {
-        status,
-        kept: Some(kept),
-    }
+    serve_words(alloc, serve_setting(words), source, sink)
+}
+
+/// Serves the lines of the source on a cluster within so many turns: `replay --turns K`, or these and `--step`, where K is
+/// from 1 to `TURNS_MAX`. It always returns.
+///
+/// Where the turns run out, `* PENDING s` is written for each session that waits for an answer.
+pub fn clustra_replay<S: Source, K: Sink>(
+    alloc: Global,
+    words: &[String],
+    source: &mut S,
+    sink: &mut K,
+) -> Ended
+    // Words that are not those of `replay` are refused, and then nothing is read or written.
+    ensures usage { (result.status ≡ USAGE) ↔ ((setting : Setting) → AreReplay (map string_bytes words.now) setting → ⊥) }
+    ensures untouched { result.kept ≡ None → (source.new ≡ source.old) × (sink.new ≡ sink.old) × ((result.status ≡ USAGE) ⊎ (result.status ≡ NO_MEMORY)) }
+    ensures unkept { result.status ≡ USAGE → result.kept ≡ None }
+    ensures status { (result.status ≡ USAGE → ⊥) → IsEndStatus result.status }
+
+    // What is kept is of a run that the words ask for, and has all that the guarantee says.
+    ensures asked { IfSome result.kept (λ _. (setting : Setting) × AreReplay (map string_bytes words.now) setting) }
+    ensures ran { (setting : Setting) → AreReplay (map string_bytes words.now) setting → IfSome result.kept (λ kept.
+        Ran S.left S.faults K.written K.flushed K.faults source.old source.new sink.old sink.new setting result.status kept) }
+{
+    serve_words(alloc, replay_setting(words), source, sink)
 }

@@ -1,15 +1,9 @@
-//! How a run ends, and what is kept of it.
-use cl_serial::{History, Transcript};
+//! How a run ends.
+use cl_world::Kept;
 
-/// What is kept of a run: what was fed and written, and the order in which transactions committed.
-#[derive(Debug, Drop)]
-pub struct Kept {
-    pub transcript: Transcript,
-    pub history: History,
-}
-
-/// How a run ended. `kept` is `None` at status `USAGE` alone.
-#[derive(Debug, Drop)]
+/// How a run ended. `kept` is `None` at status `USAGE`, at `NO_MEMORY` where there was no memory for the cluster, and at
+/// no other.
+#[derive(Drop)]
 pub struct Ended {
     pub status: u8,
     pub kept: Option<Kept>,
@@ -17,7 +11,7 @@ pub struct Ended {
 
 /// The source was read to its end, its lines were answered, and every answer written and flushed.
 pub const DONE: u8 = 0;
-/// The words are not the one word `serve`. Nothing was read or written.
+/// The words are not those of the program. Nothing was read or written.
 pub const USAGE: u8 = 2;
 /// A read failed. Nothing was fed or written.
 pub const READ_FAULT: u8 = 3;
@@ -27,3 +21,8 @@ pub const WRITE_FAULT: u8 = 4;
 pub const TOO_MUCH_INPUT: u8 = 5;
 /// An allocation failed. Nothing was written.
 pub const NO_MEMORY: u8 = 6;
+/// All turns were made, and a line is not fed or the system is not quiet. What was answered is written, and then the
+/// sessions that wait for an answer.
+pub const UNFINISHED: u8 = 7;
+/// The next event needs a number above its limit. Nothing was written.
+pub const SPENT: u8 = 8;

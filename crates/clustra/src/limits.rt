@@ -1,4 +1,13 @@
-//! The limits of the input.
+//! The program's cluster, and the limits of a run.
+
+/// How many nodes the cluster has.
+pub const NODES: u32 = 4;
+
+/// How many spares the cluster has.
+pub const SPARES: u32 = 2;
+
+/// The most turns of a run.
+pub const TURNS_MAX: u64 = 10_000_000;
 
 /// The most lines of a run.
 pub(crate) const LINES_MAX: usize = 100_000;

@@ -1,25 +1,29 @@
 //! The server's program.
 #![tactic(auto)]
 
-ghost use Rattle.std.specs.Prelude.{◌≡◌, ◌⊎◌, ◌↔◌};
+ghost use Rattle.std.specs.Prelude.{◌≡◌, ◌⊎◌, ◌↔◌, None, IfSome};
 ghost use Rattle.std.specs.IoError.{error_kind};
 ghost use Rattle.std.specs.Process.{exit_status};
-ghost use Rattle.clustra.specs.Run.{IsStatus};
+ghost use Rattle.cl_schedule.specs.declared.setting.Setting.{Setting};
+ghost use Rattle.cl_world.specs.declared.kept.Kept.{Kept};
+ghost use Rattle.clustra.specs.Run.{IsEndStatus, IsStatus};
 ghost use Rattle.clustra.specs.RunEnds.{Ran};
 
 mod call;
 mod ended;
-mod feeding;
 mod input;
 mod limits;
+mod lines;
 mod output;
+mod pending;
 mod serving;
 #[cfg(test)]
 mod tests;
+mod words;
 
-use call::clustra;
+use call::{clustra, clustra_replay};
 use cl_io::{NoGate, Sink, Source, StdSink, StdSource};
-use ended::{NO_MEMORY, USAGE};
+use ended::{Ended, NO_MEMORY, USAGE};
 use std::alloc::{AllocError, AllocGlobal};
 use std::env::{self, Env};
 use std::io::{self, ErrorKind};
@@ -47,6 +51,27 @@ fn status_of_words(error: &io::Error) -> u8
     }
 }
 
+// Runs the server on the words: `replay` through one top call, and all else through the other.
+fn run_words<R: Threads + Wait + Sync + AllocGlobal, S: Source, K: Sink>(
+    rt: &R,
+    words: &[String],
+    source: &mut S,
+    sink: &mut K,
+) -> Ended
+    ensures untouched { result.kept ≡ None → (source.new ≡ source.old) × (sink.new ≡ sink.old) × ((result.status ≡ USAGE) ⊎ (result.status ≡ NO_MEMORY)) }
+    ensures unkept { result.status ≡ USAGE → result.kept ≡ None }
+    ensures status { (result.status ≡ USAGE → ⊥) → IsEndStatus result.status }
+    ensures ran { IfSome result.kept (λ kept. (setting : Setting)
+        × Ran S.left S.faults K.written K.flushed K.faults source.old source.new sink.old sink.new setting result.status kept) }
+{
+    match words.first() {
+        Some(first) if first.as_str() == "replay" => {
+            clustra_replay(rt.alloc(), words, source, sink)
+        }
+        _ => clustra(rt, rt.alloc(), words, source, sink, &NoGate),
+    }
+}
+
 // Runs the server on the program's words and returns what the program exits with.
 fn run_program<R: Threads + Wait + Sync + Env + AllocGlobal, S: Source, K: Sink>(
     rt: &R,
@@ -55,18 +80,16 @@ fn run_program<R: Threads + Wait + Sync + Env + AllocGlobal, S: Source, K: Sink>
 ) -> ExitCode
     ensures status { IsStatus (exit_status result) }
 
-    // Words that are no command are refused, and then nothing is read or written.
+    // Words that are no command are refused, and then nothing is read or written. So it is where there is no memory for
+    // the words or for the cluster.
     ensures usage { exit_status result ≡ USAGE → (source.new ≡ source.old) × (sink.new ≡ sink.old) }
 
-    // At every other status all that the top call promises holds of the exit status, for some transcript and history.
-    ensures ran { (exit_status result ≡ USAGE → ⊥)
-        → Ran S.left S.faults K.written K.flushed K.faults source.old source.new sink.old sink.new (exit_status result) }
+    // Else all that the top calls promise holds of the exit status, for some setting and what was kept.
+    ensures ran { (exit_status result ≡ USAGE → ⊥) → ((exit_status result ≡ NO_MEMORY) × (source.new ≡ source.old) × (sink.new ≡ sink.old))
+        ⊎ ((setting : Setting) × (kept : Kept) × Ran S.left S.faults K.written K.flushed K.faults source.old source.new sink.old sink.new setting (exit_status result) kept) }
 {
     match words_of(rt) {
-        Ok(words) => {
-            let ended = clustra(rt, rt.alloc(), &words, source, sink, &NoGate);
-            ExitCode::from(ended.status)
-        }
+        Ok(words) => ExitCode::from(run_words(rt, &words, source, sink).status),
         Err(error) => ExitCode::from(status_of_words(&error)),
     }
 }

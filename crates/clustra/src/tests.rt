@@ -1,8 +1,8 @@
-use crate::call::clustra;
-use crate::ended::{DONE, NO_MEMORY, READ_FAULT, TOO_MUCH_INPUT, USAGE, WRITE_FAULT};
-use cl_io::{MemSink, MemSource, NoGate};
+use crate::ended::{DONE, NO_MEMORY, READ_FAULT, TOO_MUCH_INPUT, UNFINISHED, USAGE, WRITE_FAULT};
+use crate::run_words;
+use cl_io::{MemSink, MemSource};
 use cl_types::NoMemory;
-use std::alloc::{AllocError, Global};
+use std::alloc::{AllocError, AllocGlobal, Global};
 use std::sync::Wait;
 use std::test::Fail;
 use std::thread::Threads;
@@ -11,7 +11,8 @@ use std::thread::Threads;
 #[derive(Clone, Copy)]
 struct Case<'a> {
     name: &'static str,
-    word: &'a str,
+    // The words of the command line, each after a space but the first.
+    words: &'static str,
     input: &'a [u8],
     failing_reads: &'a [u64],
     failing_writes: &'a [u64],
@@ -19,11 +20,16 @@ struct Case<'a> {
     status: u8,
 }
 
-/// A case of `serve` whose source and sink do not fail.
-fn served<'a>(name: &'static str, input: &'a [u8], output: &'a [u8]) -> Case<'a> {
+/// A case whose source and sink do not fail.
+fn new_case<'a>(
+    name: &'static str,
+    words: &'static str,
+    input: &'a [u8],
+    output: &'a [u8],
+) -> Case<'a> {
     Case {
         name,
-        word: "serve",
+        words,
         input,
         failing_reads: &[],
         failing_writes: &[],
@@ -32,19 +38,33 @@ fn served<'a>(name: &'static str, input: &'a [u8], output: &'a [u8]) -> Case<'a>
     }
 }
 
+/// A case of `serve`.
+fn served<'a>(name: &'static str, input: &'a [u8], output: &'a [u8]) -> Case<'a> {
+    new_case(name, "serve", input, output)
+}
+
+/// The words of a command line.
+fn words_in(alloc: Global, line: &str) -> Result<Vec<String>, NoMemory> {
+    let mut words = Vec::new(alloc);
+    for word in line.split(' ') {
+        words.push(String::from_str(alloc, word)?)?;
+    }
+    Ok(words)
+}
+
 /// The status of a run in memory, and the sink after it.
-fn end_of<R: Threads + Wait + Sync>(
+fn end_of<R: Threads + Wait + Sync + AllocGlobal>(
     rt: &R,
     alloc: Global,
     case: &Case<'_>,
 ) -> Result<(u8, MemSink), NoMemory> {
-    let words = [String::from_str(alloc, case.word)?];
+    let words = words_in(alloc, case.words)?;
     let mut source = MemSource::new(
         Vec::from_slice(alloc, case.input)?,
         Vec::from_slice(alloc, case.failing_reads)?,
     );
     let mut sink = MemSink::new(alloc, Vec::from_slice(alloc, case.failing_writes)?);
-    let ended = clustra(rt, alloc, &words, &mut source, &mut sink, &NoGate);
+    let ended = run_words(rt, &words, &mut source, &mut sink);
     Ok((ended.status, sink))
 }
 
@@ -56,7 +76,7 @@ fn is_out_of_memory(status: u8, written: &[u8], output: &[u8]) -> bool {
 }
 
 /// Whether a run in memory ends as the case says, unless an allocation failed.
-fn ends_so<R: Threads + Wait + Sync>(
+fn ends_so<R: Threads + Wait + Sync + AllocGlobal>(
     rt: &R,
     alloc: Global,
     case: &Case<'_>,
@@ -87,11 +107,6 @@ fn runs_end_as_they_must(rt: HostRuntime) -> Result<(), Fail> {
         served("no input", b"", b""),
         served("a transaction", FIRST_TRANSACTION, REPLIES),
         Case {
-            word: "demo",
-            status: USAGE,
-            ..served("another word", FIRST_TRANSACTION, b"")
-        },
-        Case {
             failing_reads: &[1],
             status: READ_FAULT,
             ..served("the first read fails", FIRST_TRANSACTION, b"")
@@ -111,6 +126,62 @@ fn runs_end_as_they_must(rt: HostRuntime) -> Result<(), Fail> {
             status: WRITE_FAULT,
             ..served("the flush fails", FIRST_TRANSACTION, REPLIES)
         },
+    ];
+    for case in &cases {
+        let holds = ends_so(&rt, rt.alloc(), case)?;
+        assert!(rt; holds, "{}", case.name);
+    }
+    Ok(())
+}
+
+#[test]
+fn other_words_are_refused(rt: HostRuntime) -> Result<(), Fail> {
+    let rows = [
+        "",
+        "demo",
+        "replay",
+        "replay --turns 0",
+        "replay --turns 01",
+        "replay --turns 10000001",
+        "replay --step --turns 3",
+        "serve --step --step",
+        "serve --turns 3",
+    ];
+    for words in rows {
+        let refused = Case {
+            status: USAGE,
+            ..new_case("refused words", words, FIRST_TRANSACTION, b"")
+        };
+        let holds = ends_so(&rt, rt.alloc(), &refused)?;
+        assert!(rt; holds, "{words}");
+    }
+    Ok(())
+}
+
+#[test]
+fn turns_run_out(rt: HostRuntime) -> Result<(), Fail> {
+    let cases = [
+        Case {
+            status: UNFINISHED,
+            ..new_case(
+                "three turns",
+                "replay --turns 3",
+                FIRST_TRANSACTION,
+                b"1 OK\n* PENDING 1\n",
+            )
+        },
+        new_case(
+            "enough turns",
+            "replay --turns 100000",
+            FIRST_TRANSACTION,
+            REPLIES,
+        ),
+        new_case(
+            "enough turns, step by step",
+            "replay --turns 100000 --step",
+            FIRST_TRANSACTION,
+            REPLIES,
+        ),
     ];
     for case in &cases {
         let holds = ends_so(&rt, rt.alloc(), case)?;
@@ -166,8 +237,8 @@ const FAULTS: (&[u8], &[u8]) = (
 );
 
 const QUIET: (&[u8], &[u8]) = (
-    b"1 BEGIN\nQUIET\n1 COMMIT\nQUIET 1\n",
-    b"1 OK\n1 COMMITTED\n* ERR LINE 4 WORDS\n",
+    b"1 BEGIN\n1 COMMIT\nQUIET\n1 BEGIN\n1 COMMIT\nQUIET 1\n",
+    b"1 OK\n1 COMMITTED\n1 OK\n1 COMMITTED\n* ERR LINE 6 WORDS\n",
 );
 
 #[test]
@@ -185,7 +256,11 @@ fn sessions_are_answered(rt: HostRuntime) -> Result<(), Fail> {
         ("nothing is printed for an operator's line", QUIET),
     ];
     for (name, (input, output)) in rows {
-        let holds = ends_so(&rt, rt.alloc(), &served(name, input, output))?;
+        let holds = ends_so(
+            &rt,
+            rt.alloc(),
+            &new_case(name, "serve --step", input, output),
+        )?;
         assert!(rt; holds, "{name}");
     }
     Ok(())
@@ -256,10 +331,15 @@ fn an_operation_too_many_is_refused(rt: HostRuntime) -> Result<(), Fail> {
 fn input_past_the_limits_is_refused(rt: HostRuntime) -> Result<(), Fail> {
     let lines = repeated(rt.alloc(), b"1 GET t a\n", 100_001)?;
     let bytes = repeated(rt.alloc(), b"xxxxxxxxxx", 2_570_001)?;
-    for (name, input) in [("lines", lines.as_slice()), ("bytes", bytes.as_slice())] {
+    let rows = [
+        ("lines", "serve", lines.as_slice()),
+        ("lines", "replay --turns 1", lines.as_slice()),
+        ("bytes", "serve", bytes.as_slice()),
+    ];
+    for (name, words, input) in rows {
         let case = Case {
             status: TOO_MUCH_INPUT,
-            ..served(name, input, b"")
+            ..new_case(name, words, input, b"")
         };
         let holds = ends_so(&rt, rt.alloc(), &case)?;
         assert!(rt; holds, "too many {name}");

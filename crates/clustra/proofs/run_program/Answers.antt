@@ -1,17 +1,15 @@
--- What is kept says what was done; and nothing was where an allocation failed before the words could be had.
-use Rattle.std.proofs.Common.{◌∙◌, inl, inr}
-use Rattle.clustra.proofs.Ran.{Ran-nothing, Ran-kept}
+-- What is kept says what was done; nothing was where an allocation failed before the words or the cluster could be had.
+use Rattle.std.proofs.Common.{ℕ}
+use Rattle.cl_schedule.specs.declared.setting.Setting.{Setting}
+use Rattle.cl_world.specs.declared.kept.Kept.{Kept}
+use Rattle.clustra.specs.RunEnds.{Ran}
+use Rattle.clustra.proofs.Asked.{program_ran}
 use Rattle.clustra.proofs.run_program.Goals as goal
 
 pub returns-in-Ok-clause-ran : goal.returns-in-Ok-clause-ran
 returns-in-Ok-clause-ran g c = λ begun.
-    let h = c.clustra-ended.ensures in
-    Ran-kept _ _ _ _ _ _ _ _ _ c.clustra-ended.result.kept _ _ c.from.ensures (h.kept (λ usage. begun (c.from.ensures ∙ usage))) h.serializable h.open_replies h.causes h.answered h.nothing_fed h.read h.written h.all
-    h.unwritten h.flushed h.end h.read_fault h.write_fault h.read_unfaulted h.write_unfaulted h.counted
-
-pub returns-in-Err-clause-ran : goal.returns-in-Err-clause-ran
-returns-in-Err-clause-ran g c = λ begun.
-    elim c.status_of_words.ensures.status [
-      | inl none ↦ Ran-nothing _ _ _ _ _ _ _ _ (c.from-in-Err.ensures ∙ none)
-      | inr usage ↦ absurd (begun (c.from-in-Err.ensures ∙ usage))
-    ]
+    program_ran _ _ _ _ c.run_words.result.kept _ _
+    (λ (code : ℕ) (setting : Setting) (kept : Kept).
+    Ran g.S.Source.left g.S.Source.faults g.K.Sink.written g.K.Sink.flushed g.K.Sink.faults c.args.source.now c.run_words.new.source c.args.sink.now
+    c.run_words.new.sink setting code kept)
+    c.from.ensures begun c.run_words.ensures.untouched c.run_words.ensures.ran

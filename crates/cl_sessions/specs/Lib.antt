@@ -1,4 +1,0 @@
-pub mod Explains
-pub mod Serving
-pub mod Server
-pub mod Turn
