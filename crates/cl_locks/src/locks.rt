@@ -119,8 +119,15 @@ impl Locks {
         Some(self.granted.get(slot).mode)
     }
 
-    // The first transaction, in order of grant, that holds a lock in conflict.
-    fn first_conflict(&self, txn: TxnId, table: &TableName, key: &Key, mode: Mode) -> Option<TxnId>
+    /// The first other transaction, in order of grant, that holds a lock at a place in conflict with
+    /// the mode, or `None` where a request would be granted. It walks the list of the key.
+    pub fn first_conflict(
+        &self,
+        txn: TxnId,
+        table: &TableName,
+        key: &Key,
+        mode: Mode,
+    ) -> Option<TxnId>
         ensures { let place : Place = (table.now, key.now) in
             result ≡ first_conflict (grants_at self.now place) txn place mode }
     {

@@ -43,7 +43,7 @@ impl Log {
     ghost use Rattle.cl_log.specs.Known.{is_known, left_past, left_after};
     ghost use Rattle.cl_log.specs.Log.{entries, first_kept, next_number, room};
     ghost use Rattle.cl_log.specs.LogEntry.{content_at};
-    ghost use Rattle.cl_log.specs.Open.{is_open, stage_of, chain_of, low_of, unended_of};
+    ghost use Rattle.cl_log.specs.Open.{has_ended, is_open, stage_of, chain_of, low_of, unended_of};
     ghost use Rattle.cl_log.specs.Rest.{rest_to_undo, first_number};
 
     /// An empty log whose next number is `first`. It takes no memory.
@@ -163,6 +163,13 @@ impl Log {
         ensures { result ≡ stage_of (entries self.now) txn }
     {
         known_of(&self.index, txn).stage()
+    }
+
+    /// Whether the log has an End of the transaction. It is one look-up.
+    pub fn has_ended(&self, txn: TxnId) -> bool
+        ensures { result ≡ has_ended (entries self.now) txn }
+    {
+        known_of(&self.index, txn).ended
     }
 
     /// The numbers of all records of a transaction that are kept, of whichever kind, in order. It

@@ -1,6 +1,8 @@
-//! Tests of locks, stores, logs, redo, participants, controllers and packets through their public calls, a module for each crate.
+//! Tests of locks, stores, logs, redo, participants, controllers, packets, decisions and modes through their public calls, a module for each crate.
 #![tactic(auto)]
 
+#[cfg(test)]
+mod backup;
 #[cfg(test)]
 mod control;
 #[cfg(test)]
@@ -11,6 +13,8 @@ mod log;
 mod part;
 #[cfg(test)]
 mod redo;
+#[cfg(test)]
+mod repair;
 #[cfg(test)]
 mod store;
 #[cfg(test)]
