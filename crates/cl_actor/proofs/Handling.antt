@@ -1,5 +1,6 @@
 -- A packet that is handled, a tick and a line, over plain variables.
-use Rattle.std.proofs.Common.{◌≡◌, ℕ, ◌<◌, All, Bool, false, ◌&&◌, ◌||◌, if◌then◌else◌, List, [], map, Option, Some, None, Result, Ok, Err, IfOk, OnOk, refl, sym, ap, subst, ◌∙◌}
+use Rattle.std.proofs.Common.{◌≡◌, ℕ, ◌<◌, All, Bool, true, false, ◌&&◌, ◌||◌, if◌then◌else◌, List, [], map}
+use Rattle.std.proofs.Common.{Option, Some, None, Result, Ok, Err, IfOk, OnOk, refl, sym, ap, subst, ◌∙◌, arith}
 use Rattle.std.proofs.lemmas.List.Elements.{All-same}
 use Rattle.cl_endpoint.specs.declared.received.Received.{Received}
 use Rattle.cl_endpoint.specs.declared.received.Received.TheVariants.{Now}
@@ -8,18 +9,17 @@ use Rattle.cl_endpoint.specs.Emission.{emitted, after_emit}
 use Rattle.cl_endpoint.specs.Endpoint.{EndpointState, received, after_receive, owed_to, after_gives, is_spent_to, is_spent_by}
 use Rattle.cl_lines.specs.declared.out.Out.{Out}
 use Rattle.cl_post.specs.declared.outs.Outs.{Outs}
-use Rattle.cl_post.specs.Steps.{OutsData, IsStep, IsSpentWhere, outs_of}
+use Rattle.cl_post.specs.Steps.{OutsData, IsStep, IsSpentWhere, IsSpentByMark, outs_of}
 use Rattle.cl_roster.specs.View.{RosterView}
-use Rattle.cl_steps.specs.declared.steps.Outgoing.{Outgoing}
 use Rattle.cl_steps.specs.declared.steps.Steps.{Steps}
 use Rattle.cl_steps.specs.Steps.{step_of, nothing_done}
 use Rattle.cl_types.specs.declared.answers.Refused.{Refused}
 use Rattle.cl_types.specs.declared.answers.Refused.TheVariants.{NoMemory, Spent}
 use Rattle.cl_types.specs.declared.operations.TxnId.{TxnId}
 use Rattle.cl_wire.specs.Message.{Message, Content}
-use Rattle.cl_actor.proofs.Receivers.{All-of_map}
+use Rattle.cl_actor.proofs.Receivers.{All-of_map, each_of_fewer, more_is_spent}
 use Rattle.cl_actor.specs.Acting.{ActingState, noted_in, unmoved, is_now, delivery, is_handling_spent, endpoint_after, outs_after, finished, handled, SendsToActors}
-use Rattle.cl_actor.specs.Core.{Noted, noted_of, CoreStep, receivers, IsCoreStep}
+use Rattle.cl_actor.specs.Core.{Noted, noted_of, CoreStep, AreFewer, receivers, IsCoreStep}
 
 -- who sends nothing gives nothing
 pub gives_nothing : (endpoint : EndpointState) → after_gives endpoint [] ≡ endpoint
@@ -43,11 +43,6 @@ pub receiving_notes_nothing : (endpoint : EndpointState) (from seq ack : ℕ) �
 unfolding after_receive
 receiving_notes_nothing endpoint from seq ack = refl
 
--- whether a link is at its last number depends on the receivers alone
-pub spent_by_receivers : (endpoint : EndpointState) (sends others : List Outgoing) →
-    map (λ message. message.to) sends ≡ map (λ message. message.to) others → is_spent_by endpoint sends ≡ is_spent_by endpoint others
-spent_by_receivers endpoint sends others alike = ap (λ to. is_spent_to endpoint to) alike
-
 -- the core is told what the endpoint has noted
 pub noted_alike : (view : RosterView) (endpoint : EndpointState) →
     view.nodes ≡ endpoint.nodes → view.spares ≡ endpoint.spares → view.entries ≡ endpoint.noted → noted_of view ≡ noted_in endpoint
@@ -67,18 +62,27 @@ finished_is_step Is WillBe stepped given after owed steps (Ok made) will step ou
     (sym short)
     ((settled _ will, endpoint ∙ ap (λ one. endpoint_after given one owed) step), outs ∙ ap (λ one. outs_after given one owed) step)
 
--- a core that refuses as spent makes the step spent
-pub refused_is_spent : (A B : Type 0) (core links : Bool) (refused : Refused) → IsSpentWhere {A = A} core (Err refused) → IsSpentWhere {A = B} (core || links) (Err refused)
-refused_is_spent A B core links NoMemory spent = tt
-refused_is_spent A B core links Spent spent = ap (λ one. one || links) spent
+-- a refusal is by the mark where a step that is refused as spent is spent with no mark
+pub refused_by_mark : (spent : Bool → Bool) (refused : Refused) → (refused ≡ Spent → spent false ≡ true) → IsSpentByMark spent (Err refused)
+refused_by_mark spent refused is = record { unspent = tt; cause = λ e. is cc }
 
--- where the core is not spent, the links tell
-pub links_tell : {A : Type 0} (core links : Bool) (result : Result A Refused) → core ≡ false → IsSpentWhere links result → IsSpentWhere (core || links) result
-links_tell core links result unspent spent = subst (λ one. IsSpentWhere (one || links) result) (sym unspent) spent
+-- who is refused as spent is spent
+pub spent_refused : (A : Type 0) (spent : Bool) (refused : Refused) → IsSpentWhere {A = A} spent (Err refused) → refused ≡ Spent → spent ≡ true
+spent_refused A spent NoMemory is e = let other : ◌≡◌ {A = Refused} NoMemory Spent = e in absurd cc
+spent_refused A spent Spent is e = is
 
--- where a message is accepted now, the step is spent where its parts are
-pub spent_now : {A : Type 0} (seen : Received) (spent : Bool) (result : Result A Refused) → seen ≡ Now → IsSpentWhere spent result → IsSpentWhere (is_now seen && spent) result
-spent_now seen spent result now is = subst (λ one. IsSpentWhere (is_now one && spent) result) (sym now) is
+-- where neither the core nor a link is spent, the step is not
+pub parts_unspent : (seen : Received) (core links : Bool) → core ≡ false → links ≡ false → (is_now seen && (core || links)) ≡ false
+parts_unspent seen core links one other = ap (λ b. is_now seen && (b || links)) one ∙ ap (λ b. is_now seen && b) other ∙ nothing (is_now seen)
+  where
+    nothing : (b : Bool) → (b && false) ≡ false
+    nothing true = refl
+    nothing false = refl
+
+-- where the message is accepted now and a link is spent, the step is
+pub link_spends : (seen : Received) (core links : Bool) → seen ≡ Now → core ≡ false → links ≡ true → (is_now seen && (core || links)) ≡ true
+link_spends seen core links now unspent spent =
+    ap (λ one. is_now one && (core || links)) now ∙ ap (λ one. one || links) unspent ∙ spent
 
 -- steps that are alike for each mark are the same step
 pub step_alike : {S : Type 0} (IsNow : S → Type 0) (one other : Bool → S × OutsData) (result : Result Outs Refused) →
@@ -129,44 +133,73 @@ module _ {S : Type 0} (delivered : Noted → S → ℕ → Content → Bool → 
   module _ (before : ActingState S) (m : Message) (noted : Noted) (steps : Steps)
       (tells : noted ≡ noted_in before.endpoint)
       (step : step_of steps ≡ (delivered noted before.core m.from m.content steps.short).step)
-      (alike : (mark : Bool) → receivers (delivered (noted_in before.endpoint) before.core m.from m.content mark) ≡ receivers (delivered (noted_in before.endpoint) before.core m.from m.content false)) where
-    -- to whom a step sends does not depend on its mark
-    pub same_receivers : map (λ message. message.to) (step_of steps).sends ≡ receivers (delivered (noted_in before.endpoint) before.core m.from m.content false)
+      (fewer : AreFewer (receivers (delivered (noted_in before.endpoint) before.core m.from m.content true))
+      (receivers (delivered (noted_in before.endpoint) before.core m.from m.content false))) where
+    -- to whom the step with this mark sends
+    to_with : Bool → List ℕ
+    to_with mark = receivers (delivered (noted_in before.endpoint) before.core m.from m.content mark)
+
+    -- it is made with its mark
+    same_receivers : map (λ message. message.to) (step_of steps).sends ≡ to_with steps.short
+    unfolding to_with
     same_receivers =
         ap (λ one. map (λ message. message.to) one.sends) step
         ∙ ap (λ one. receivers (delivered one before.core m.from m.content steps.short)) tells
-        ∙ alike steps.short
 
-    -- so it sends to actors, whatever its mark
+    -- with no mark a step sends to no fewer
+    fewer_with : (mark : Bool) → AreFewer (to_with mark) (to_with false)
+    unfolding to_with
+    fewer_with true = fewer
+    fewer_with false = λ to. omega arith
+
+    -- so it sends to no more than with no mark
+    fewer_receivers : AreFewer (map (λ message. message.to) (step_of steps).sends) (to_with false)
+    fewer_receivers = subst (λ one. AreFewer one (to_with false)) (sym same_receivers) (fewer_with steps.short)
+
+    -- and to actors, whatever its mark
     pub sends_to_actors : SendsToActors (delivered (noted_in before.endpoint) before.core m.from m.content false) →
         All (λ message. message.to < ACTORS) (step_of steps).sends
-    sends_to_actors fits = All-of_map (λ to. to < ACTORS) (λ message. message.to) _ (All-same (λ to. to < ACTORS) _ _ same_receivers fits)
+    unfolding to_with
+    sends_to_actors fits = All-of_map (λ to. to < ACTORS) (λ message. message.to) _ (each_of_fewer (λ to. to < ACTORS) _ _ fewer_receivers fits)
 
-    -- and the step of the actor is spent where a link is at its last number
+    core_unspent : (is_delivery_spent : Noted → S → ℕ → Content → Bool) → is_delivery_spent noted before.core m.from m.content ≡ false →
+        is_delivery_spent (noted_in before.endpoint) before.core m.from m.content ≡ false
+    core_unspent is_delivery_spent unspent = ap (λ one. is_delivery_spent one before.core m.from m.content) (sym tells) ∙ unspent
+
+    -- the step of the actor is spent by its mark, where a link is at its last number
     pub accepted_is_spent : (heard : EndpointState) (owed : Option ℕ) (is_delivery_spent : Noted → S → ℕ → Content → Bool) (result : Result Outs Refused) →
         Accepts before.endpoint heard owed noted m →
         is_delivery_spent noted before.core m.from m.content ≡ false →
+        IfOk result (λ outs. outs_of outs ≡ outs_after heard (step_of steps) owed) →
         IsSpentWhere (is_spent_by heard (step_of steps).sends) result →
-        IsSpentWhere (is_handling_spent delivered is_delivery_spent before m) result
-    accepted_is_spent heard owed is_delivery_spent result meets unspent spent =
-        let links : is_spent_by heard (step_of steps).sends ≡ is_spent_by (after_receive before.endpoint m.from m.seq m.ack) (delivered (noted_in before.endpoint) before.core m.from m.content false).step.sends =
-        ap (λ one. is_spent_by one (step_of steps).sends) meets.hears ∙ spent_by_receivers _ (step_of steps).sends _ same_receivers in
-        let core : is_delivery_spent (noted_in before.endpoint) before.core m.from m.content ≡ false =
-        ap (λ one. is_delivery_spent one before.core m.from m.content) (sym tells) ∙ unspent in
-        spent_now (received before.endpoint m.from m.seq) _ result meets.now
-        (links_tell _ _ result core (subst (λ one. IsSpentWhere one result) links spent))
+        IsSpentByMark (is_handling_spent delivered is_delivery_spent before m) result
+    unfolding to_with
+    accepted_is_spent heard owed is_delivery_spent (Ok made) meets unspent outs spent =
+        let short : made.short ≡ steps.short = ap (λ one. one.short) outs in
+        record {
+          unspent = parts_unspent (received before.endpoint m.from m.seq) _ _ (core_unspent is_delivery_spent unspent)
+              (ap (λ mark. is_spent_to (after_receive before.endpoint m.from m.seq m.ack) (to_with mark)) short
+              ∙ ap (λ to. is_spent_to (after_receive before.endpoint m.from m.seq m.ack) to) (sym same_receivers)
+              ∙ ap (λ one. is_spent_by one (step_of steps).sends) (sym meets.hears) ∙ spent);
+          cause = λ e. absurd cc;
+        }
+    accepted_is_spent heard owed is_delivery_spent (Err refused) meets unspent outs spent =
+        refused_by_mark _ refused (λ e. link_spends (received before.endpoint m.from m.seq) _ _ meets.now (core_unspent is_delivery_spent unspent)
+        (more_is_spent (after_receive before.endpoint m.from m.seq m.ack) (map (λ message. message.to) (step_of steps).sends) (to_with false) fewer_receivers
+        (ap (λ one. is_spent_by one (step_of steps).sends) (sym meets.hears) ∙ spent_refused Outs (is_spent_by heard (step_of steps).sends) refused spent e)))
 
   -- a core that refuses as spent makes the step of the actor spent
   pub accepted_refusal_is_spent : (before : ActingState S) (m : Message) (heard : EndpointState) (owed : Option ℕ) (noted : Noted)
       (is_delivery_spent : Noted → S → ℕ → Content → Bool) (refused : Refused) →
       Accepts before.endpoint heard owed noted m →
       IsSpentWhere {A = Steps} (is_delivery_spent noted before.core m.from m.content) (Err refused) →
-      IsSpentWhere {A = Outs} (is_handling_spent delivered is_delivery_spent before m) (Err refused)
+      IsSpentByMark (is_handling_spent delivered is_delivery_spent before m) (Err refused)
   accepted_refusal_is_spent before m heard owed noted is_delivery_spent refused meets spent =
-      let core : IsSpentWhere {A = Steps} (is_delivery_spent (noted_in before.endpoint) before.core m.from m.content) (Err refused) =
-      subst (λ one. IsSpentWhere {A = Steps} (is_delivery_spent one before.core m.from m.content) (Err refused)) meets.tells spent in
-      spent_now {A = Outs} (received before.endpoint m.from m.seq) _ (Err refused) meets.now
-      (refused_is_spent Steps Outs (is_delivery_spent (noted_in before.endpoint) before.core m.from m.content) _ refused core)
+      let links : Bool = is_spent_to (after_receive before.endpoint m.from m.seq m.ack) (receivers (delivery delivered before m false)) in
+      refused_by_mark _ refused (λ e.
+      ap (λ one. is_now one && (is_delivery_spent (noted_in before.endpoint) before.core m.from m.content || links)) meets.now
+      ∙ ap (λ one. is_delivery_spent one before.core m.from m.content || links) (sym meets.tells)
+      ∙ ap (λ one. one || links) (spent_refused Steps (is_delivery_spent noted before.core m.from m.content) refused spent e))
 
 -- what the core sends on a line goes to actors
 pub line_sends_to_actors : {S : Type 0} (fed : Noted → S → ℕ → List ℕ → List Out → CoreStep S) (before : ActingState S) (line : ℕ) (text : List ℕ) (said : List Out) (noted : Noted) (steps : Steps) →

@@ -76,12 +76,12 @@ module _ {S : Type 0} (delivered : Noted → S → ℕ → Content → Bool → 
   handled before m mark =
       finished (accepted_step before m mark) (after_receive before.endpoint m.from m.seq m.ack) (owed_to (received before.endpoint m.from m.seq) m.from)
 
-  -- handling would need a number above its limit: one of the core, or that of a message which the core sends
-  abbrev pub is_handling_spent : (Noted → S → ℕ → Content → Bool) → ActingState S → Message → Bool
-  is_handling_spent is_delivery_spent before m =
+  -- handling with this mark would need a number above its limit: one of the core, or that of a message which the core sends
+  abbrev pub is_handling_spent : (Noted → S → ℕ → Content → Bool) → ActingState S → Message → Bool → Bool
+  is_handling_spent is_delivery_spent before m mark =
       is_now (received before.endpoint m.from m.seq)
       && (is_delivery_spent (noted_in before.endpoint) before.core m.from m.content
-      || is_spent_to (after_receive before.endpoint m.from m.seq m.ack) (receivers (delivery before m false)))
+      || is_spent_to (after_receive before.endpoint m.from m.seq m.ack) (receivers (delivery before m mark)))
 
 -- the actor can handle a packet: an actor sends it, and the core can take its message, where it is accepted now, and sends to actors alone
 pub record HandlingFits {S : Type 0} (delivered : Noted → S → ℕ → Content → Bool → CoreStep S) (DeliveryFits : Noted → S → ℕ → Content → Type 0) (before : ActingState S) (m : Message) : Type 0 where
@@ -119,12 +119,12 @@ module _ {S : Type 0} (delivered : Noted → S → ℕ → Content → Bool → 
   acted before (feed line text said) mark = fed_line fed before line text said
   acted before quiet mark = (before, no_outs)
 
-  -- the step would need a number above its limit
-  abbrev pub is_acting_spent : (Noted → S → ℕ → Content → Bool) → (Noted → S → ℕ → List ℕ → List Out → Bool) → ActingState S → Input → Bool
-  is_acting_spent is_delivery_spent is_line_spent before (handle m) = is_handling_spent delivered is_delivery_spent before m
-  is_acting_spent is_delivery_spent is_line_spent before tick = false
-  is_acting_spent is_delivery_spent is_line_spent before (feed line text said) = is_feeding_spent fed is_line_spent before line text said
-  is_acting_spent is_delivery_spent is_line_spent before quiet = false
+  -- the step with this mark would need a number above its limit
+  abbrev pub is_acting_spent : (Noted → S → ℕ → Content → Bool) → (Noted → S → ℕ → List ℕ → List Out → Bool) → ActingState S → Input → Bool → Bool
+  is_acting_spent is_delivery_spent is_line_spent before (handle m) mark = is_handling_spent delivered is_delivery_spent before m mark
+  is_acting_spent is_delivery_spent is_line_spent before tick mark = false
+  is_acting_spent is_delivery_spent is_line_spent before (feed line text said) mark = is_feeding_spent fed is_line_spent before line text said
+  is_acting_spent is_delivery_spent is_line_spent before quiet mark = false
 
   -- the state meets the conditions of each call that the step makes
   abbrev pub ActingFits : (Noted → S → ℕ → Content → Type 0) → (Noted → S → ℕ → List ℕ → List Out → Type 0) → ActingState S → Input → Type 0

@@ -3,7 +3,7 @@ ghost use Rattle.std.specs.Prelude.{◌≡◌, ◌<◌, IfOk, IfSome, OnOk, OnEr
 ghost use Rattle.std.specs.Borrow.{Lends, sem};
 ghost use Rattle.std.specs.List.{All};
 ghost use Rattle.cl_endpoint.specs.Endpoint.{is_spent_by, is_waiting, received, set_number};
-ghost use Rattle.cl_post.specs.Steps.{IsSpentWhere, outs_of};
+ghost use Rattle.cl_post.specs.Steps.{IsSpentWhere, IsSpentByMark, outs_of};
 ghost use Rattle.cl_steps.specs.Steps.{step_of, nothing_done};
 ghost use Rattle.cl_actor.specs.Acting.{core_of, endpoint_of, noted_in, with_core, endpoint_after, outs_after};
 ghost use Rattle.cl_actor.specs.Core.{noted_of};
@@ -92,7 +92,7 @@ impl<C> Acting<C> {
         ensures outs { IfOk result (λ outs. outs_of outs ≡ outs_after self.old.endpoint nothing_done owed) }
         ensures endpoint { OnOk result (self.new.endpoint ≡ endpoint_after self.old.endpoint nothing_done owed) }
         ensures core { self.new.core ≡ self.old.core }
-        ensures unspent { IsSpentWhere false result }
+        ensures unspent { IsSpentByMark (λ mark. false) result }
     {
         let Ok(packets) = self.endpoint.emit(self.alloc, owed) else {
             return Err(Refused::NoMemory);

@@ -1,11 +1,11 @@
 //! What an actor decides.
-ghost use Rattle.std.specs.Prelude.{◌≡◌, ℕ, Bool, false, List, map, OnErr};
+ghost use Rattle.std.specs.Prelude.{◌≡◌, ℕ, Bool, true, false, List, map, OnErr};
 ghost use Rattle.cl_lines.specs.declared.out.Out.{Out as Printed};
 ghost use Rattle.cl_post.specs.Steps.{IsSpentWhere};
 ghost use Rattle.cl_serial.specs.Transcript.{TranscriptEntry};
 ghost use Rattle.cl_types.specs.GrowingList.{items};
 ghost use Rattle.cl_wire.specs.Message.{Content, content_of};
-ghost use Rattle.cl_actor.specs.Core.{Noted, noted_of, CoreStep, IsCoreStep, receivers};
+ghost use Rattle.cl_actor.specs.Core.{Noted, noted_of, CoreStep, IsCoreStep, AreFewer, receivers};
 
 use cl_post::OutList;
 use cl_roster::Roster;
@@ -31,7 +31,7 @@ pub trait Core {
     ghost delivered: { Noted → Self.State → ℕ → Content → Bool → CoreStep Self.State };
     // The state after a line of this number, with its text and what it is to write, and what the step gives.
     ghost fed: { Noted → Self.State → ℕ → List ℕ → List Printed → CoreStep Self.State };
-    // The step would need a number above its limit.
+    // The step would need a number above its limit, whatever its mark.
     ghost is_delivery_spent: { Noted → Self.State → ℕ → Content → Bool };
 
     ghost is_line_spent: { Noted → Self.State → ℕ → List ℕ → List Printed → Bool };
@@ -72,7 +72,7 @@ pub trait Core {
     fn settle(&mut self)
         ensures { (after : Self.State) → Self.will_be self.old after → Self.is_state self.new after };
 
-    // To whom a step sends does not depend on the mark.
-    ghost marks_alike: { (core : Self) (noted : Noted) (state : Self.State) (from : ℕ) (content : Content) (mark : Bool) → Self.is_state core state
-        → receivers (Self.delivered noted state from content mark) ≡ receivers (Self.delivered noted state from content false) };
+    // With the mark a step sends to no actor that it does not send to without, nor more often.
+    ghost fewer_by_mark: { (core : Self) (noted : Noted) (state : Self.State) (from : ℕ) (content : Content) → Self.is_state core state
+        → AreFewer (receivers (Self.delivered noted state from content true)) (receivers (Self.delivered noted state from content false)) };
 }

@@ -37,8 +37,8 @@ front_after before input mark = (acted delivered_front fed_front before input ma
 abbrev pub front_outs : FrontMachineState → Input → Bool → OutsData
 front_outs before input mark = (acted delivered_front fed_front before input mark).1
 
--- its step would need a number above its limit
-abbrev pub is_front_spent : FrontMachineState → Input → Bool
+-- its step with this mark would need a number above its limit
+abbrev pub is_front_spent : FrontMachineState → Input → Bool → Bool
 is_front_spent = is_acting_spent delivered_front fed_front is_delivery_spent is_line_spent
 
 -- it meets the conditions of each call that its step makes

@@ -81,7 +81,7 @@ impl FrontCore {
 }
 
 impl Core for FrontCore {
-    ghost use Rattle.std.specs.Prelude.{refl};
+    ghost use Rattle.std.proofs.Common.{le_refl};
     ghost use Rattle.cl_front.specs.Front.{FrontState, new_front, delivered_front, fed_front, is_delivery_spent, is_line_spent, DeliveryFits, LineFits};
     ghost use Rattle.cl_front.specs.FrontCore.{IsFront, WillBeFront, transcript_in};
 
@@ -149,5 +149,5 @@ impl Core for FrontCore {
         self.recorder.settle();
     }
 
-    ghost marks_alike = { λ core noted state from content mark is. refl };
+    ghost fewer_by_mark = { λ core noted state from content is to. le_refl _ };
 }

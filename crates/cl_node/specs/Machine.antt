@@ -35,8 +35,8 @@ node_after before input mark = (acted delivered_node fed_node before input mark)
 abbrev pub node_outs : NodeMachineState → Input → Bool → OutsData
 node_outs before input mark = (acted delivered_node fed_node before input mark).1
 
--- its step would need a number above its limit
-abbrev pub is_node_spent : NodeMachineState → Input → Bool
+-- its step with this mark would need a number above its limit
+abbrev pub is_node_spent : NodeMachineState → Input → Bool → Bool
 is_node_spent = is_acting_spent delivered_node fed_node is_delivery_spent is_line_spent
 
 -- it meets the conditions of each call that its step makes

@@ -11,7 +11,7 @@ use cl_wire::Body;
 
 impl Core for NodeCore {
     ghost use Rattle.std.specs.Prelude.{[]};
-    ghost use Rattle.cl_node.specs.Marks.{marks_are_alike};
+    ghost use Rattle.cl_node.specs.Marks.{sends_fewer_by_mark};
     ghost use Rattle.cl_node.specs.Node.{NodeState, DeliveryFits, AnyLineFits, delivered_node, fed_node, first_node, is_delivery_spent, is_line_spent};
     ghost use Rattle.cl_node.specs.NodeCore.{IsNodeState};
 
@@ -61,5 +61,5 @@ impl Core for NodeCore {
 
     fn settle(&mut self) {}
 
-    ghost marks_alike = { marks_are_alike };
+    ghost fewer_by_mark = { sends_fewer_by_mark };
 }

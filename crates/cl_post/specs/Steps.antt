@@ -1,8 +1,9 @@
 -- What reaches an actor, and what its step gives, as plain data.
-use Rattle.std.specs.Prelude.{◌≡◌, ℕ, Bool, false, List, [], map, Option, None, Result, Ok, Err}
+use Rattle.std.specs.Prelude.{◌≡◌, ℕ, Bool, true, false, List, [], map, Option, None, Result, Ok, Err, IfOk}
 use Rattle.cl_lines.specs.declared.out.Out.{Out}
 use Rattle.cl_roster.specs.declared.entry.RosterEntry.{RosterEntry}
 use Rattle.cl_types.specs.declared.answers.Refused.{Refused}
+use Rattle.cl_types.specs.declared.answers.Refused.TheVariants.{Spent}
 use Rattle.cl_types.specs.declared.operations.TxnId.{TxnId}
 use Rattle.cl_types.specs.GrowingList.{items}
 use Rattle.cl_wire.specs.Message.{Message, message_of}
@@ -39,3 +40,8 @@ no_outs = record { packets = []; firm = []; entry = None; short = false }
 abbrev pub IsStep : {S : Type 0} → (S → Type 0) → (Bool → S) → (Bool → OutsData) → Result Outs Refused → Type 0
 IsStep IsNow after outs (Ok given) = IsNow (after given.short) × (outs_of given ≡ outs given.short)
 IsStep IsNow after outs (Err refused) = Unit {0}
+
+-- a step was made only where it is not spent with the mark that was given, and refused as spent only where it is spent with no mark
+pub record IsSpentByMark (spent : Bool → Bool) (result : Result Outs Refused) : Type 0 where
+  pub unspent : IfOk result (λ given. spent given.short ≡ false)
+  pub cause : result ≡ Err Spent → spent false ≡ true

@@ -4,7 +4,7 @@ ghost use Rattle.cl_lines.specs.declared.out.Out.{Out as Printed};
 ghost use Rattle.cl_serial.specs.Transcript.{TranscriptEntry};
 ghost use Rattle.cl_types.specs.GrowingList.{items};
 ghost use Rattle.cl_wire.specs.Message.{message_of};
-ghost use Rattle.cl_post.specs.Steps.{Input, handle, tick, feed, IsStep, IsSpentWhere, OutsData};
+ghost use Rattle.cl_post.specs.Steps.{Input, handle, tick, feed, IsStep, IsSpentByMark, OutsData};
 
 use crate::{OutList, Outs};
 use cl_roster::RosterEntry;
@@ -15,9 +15,10 @@ use cl_wire::Packet;
 /// and the mark of the event.
 ///
 /// `State` is what the actor has, as plain data, and `is_state` ties the actor to it. A call asks that
-/// its input fits, and gives the step with the mark that its `Outs` have. It is refused as `Spent` only
-/// where the step would need a number above its limit, and else only where an allocation fails. After
-/// a refusal the actor may only be dropped, but a front's transcript is as before.
+/// its input fits, and gives the step with the mark that its `Outs` have: that step needs no number
+/// above its limit. It is refused as `Spent` only where the step with no mark would need one, and else
+/// only where an allocation fails. After a refusal the actor may only be dropped, but a front's
+/// transcript is as before.
 pub trait Machine {
     // What the actor has, as plain data.
     ghost State: { Type 0 };
@@ -29,8 +30,8 @@ pub trait Machine {
     ghost after: { Self.State → Input → Bool → Self.State };
 
     ghost outs: { Self.State → Input → Bool → OutsData };
-    // The step would need a number above its limit.
-    ghost is_spent: { Self.State → Input → Bool };
+    // The step with this mark would need a number above its limit.
+    ghost is_spent: { Self.State → Input → Bool → Bool };
     // The state meets the conditions of each call below that the step makes.
     ghost fits: { Self.State → Input → Type 0 };
     // The transcript of a front; that of a node is empty.
@@ -42,7 +43,7 @@ pub trait Machine {
         ensures step { (before : Self.State) → Self.is_state self.old before
             → IsStep (Self.is_state self.new) (Self.after before (handle (message_of packet.now))) (Self.outs before (handle (message_of packet.now))) result }
         ensures spent { (before : Self.State) → Self.is_state self.old before
-            → IsSpentWhere (Self.is_spent before (handle (message_of packet.now))) result }
+            → IsSpentByMark (Self.is_spent before (handle (message_of packet.now))) result }
         ensures refused { OnErr result (Self.transcript self.new ≡ Self.transcript self.old) };
 
     /// Lets the actor's clock tick: each message that is not acknowledged is due again.
@@ -51,7 +52,7 @@ pub trait Machine {
         ensures step { (before : Self.State) → Self.is_state self.old before
             → IsStep (Self.is_state self.new) (Self.after before tick) (Self.outs before tick) result }
         ensures spent { (before : Self.State) → Self.is_state self.old before
-            → IsSpentWhere (Self.is_spent before tick) result }
+            → IsSpentByMark (Self.is_spent before tick) result }
         ensures refused { OnErr result (Self.transcript self.new ≡ Self.transcript self.old) };
 
     /// Feeds a line, with its number and what an operator's line is to write. A line does nothing at a node.
@@ -61,6 +62,6 @@ pub trait Machine {
             → IsStep (Self.is_state self.new) (Self.after before (feed line text.now (items said.now)))
             (Self.outs before (feed line text.now (items said.now))) result }
         ensures spent { (before : Self.State) → Self.is_state self.old before
-            → IsSpentWhere (Self.is_spent before (feed line text.now (items said.now))) result }
+            → IsSpentByMark (Self.is_spent before (feed line text.now (items said.now))) result }
         ensures refused { OnErr result (Self.transcript self.new ≡ Self.transcript self.old) };
 }

@@ -1,5 +1,5 @@
--- What an actor sends in an event stands at the ends of its ways after it, and whom it sends to does not depend on memory.
-use Rattle.std.proofs.Common.{◌≡◌, ℕ, Bool, true, false, cond, eqb, List, [], ◌∷◌, ◌++◌, map, All, refl, subst, ltb}
+-- What an actor sends in an event stands at the ends of its ways after it.
+use Rattle.std.proofs.Common.{◌≡◌, ℕ, Bool, true, false, cond, eqb, List, [], ◌∷◌, ◌++◌, All, refl, subst, ltb}
 use Rattle.std.proofs.lemmas.Bool.{cond_both, eq-eqb}
 use Rattle.std.proofs.lemmas.List.Elements.{All-nil}
 use Rattle.cl_endpoint.specs.declared.limits.TheConstants.{ACTORS}
@@ -9,16 +9,9 @@ use Rattle.cl_ranges.proofs.Events.{All-behind}
 use Rattle.cl_ranges.proofs.Steps.{message_step, first_step, event_step}
 use Rattle.cl_runs.specs.Queues.{sent_to, QueueEvent, deliver, take_line, quieten, nothing}
 use Rattle.cl_runs.specs.World.{Shape}
-use Rattle.cl_steps.specs.Steps.{Step}
 use Rattle.cl_steps.specs.declared.actors.TheConstants.{FRONT}
-use Rattle.cl_steps.specs.declared.steps.Outgoing.{Outgoing}
 use Rattle.cl_system.specs.Replicas.{ReplicaWorld, own_primary, nothing_noted, with_way, front_acts, replica_acts, after_message, after_first, after_replica_event}
-use Rattle.cl_types.specs.declared.operations.Op.{Op}
-use Rattle.cl_types.specs.declared.operations.TxnId.{TxnId}
-use Rattle.cl_types.specs.Places.{Place}
-use Rattle.cl_vnode.specs.Replica.{ReplicaState}
-use Rattle.cl_vnode.specs.Step.{started, asked}
-use Rattle.cl_wire.specs.Message.{Content, Bare, Command, Outcome, Ask, Answer, Prepare, Vote, Finish, Inquire, Decision, Log, LogAck, Repair, Records, Names, CopyAck}
+use Rattle.cl_wire.specs.Message.{Content}
 
 -- who acts in an event, where anybody sends anything
 abbrev pub IsActing : QueueEvent → ℕ → Type 0
@@ -64,45 +57,3 @@ module _ (P : Content → Type 0) where
       (All-behind P (world.mail FRONT to) _) all
   sends_behind shape world quieten me to acts all = none_to to
   sends_behind shape world nothing me to acts all = none_to to
-
--- ---- receivers
-
--- to whom the step sends
-abbrev pub receivers_in : Step → List ℕ
-receivers_in step = map (λ (message : Outgoing). message.to) step.sends
-
-asked_marks : (state : ReplicaState) (from v : ℕ) (txn : TxnId) (number : ℕ) (place : Place) (op : Op) (mark : Bool) →
-    receivers_in (asked (started state) from v txn number place op mark).step ≡ receivers_in (asked (started state) from v txn number place op false).step
-unfolding asked
-asked_marks state from v txn number place op true = refl
-asked_marks state from v txn number place op false = refl
-
-replica_marks : (state : ReplicaState) (from : ℕ) (content : Content) (mark : Bool) → receivers_in (lone_step own_primary state from content mark).step ≡ receivers_in (lone_step own_primary state from content false).step
-unfolding lone_step
-replica_marks state from (Ask v txn number table key op) mark = asked_marks state from v txn number (table, key) op mark
-replica_marks state from Bare mark = refl
-replica_marks state from (Command v txn number asked) mark = refl
-replica_marks state from (Outcome txn number outcome) mark = refl
-replica_marks state from (Answer v txn number answer) mark = refl
-replica_marks state from (Prepare v txn) mark = refl
-replica_marks state from (Vote v txn) mark = refl
-replica_marks state from (Finish v txn commit) mark = refl
-replica_marks state from (Inquire v txn) mark = refl
-replica_marks state from (Decision v txn commit) mark = refl
-replica_marks state from (Log v number entry) mark = refl
-replica_marks state from (LogAck v number) mark = refl
-replica_marks state from (Repair v node) mark = refl
-replica_marks state from (Records v index records) mark = refl
-replica_marks state from (Names v index last low txns) mark = refl
-replica_marks state from (CopyAck v index) mark = refl
-
--- they are the same whether memory was short or not
-pub first_marks : (shape : Shape) (world : ReplicaWorld) (from to : ℕ) (mark : Bool) (contents : List Content) →
-    receivers_in (first_step shape world from to mark contents) ≡ receivers_in (first_step shape world from to false contents)
-first_marks shape world from to mark [] = refl
-first_marks shape world from to mark (content ∷ rest) =
-    elim (eqb to FRONT) as (λ b. receivers_in (cond b (delivered_front (nothing_noted shape) world.front from content mark).step (lone_step own_primary (world.replicas to) from content mark).step)
-    ≡ receivers_in (cond b (delivered_front (nothing_noted shape) world.front from content false).step (lone_step own_primary (world.replicas to) from content false).step)) [
-      | true ↦ refl
-      | false ↦ replica_marks (world.replicas to) from content mark
-    ]

@@ -5,6 +5,7 @@ use Rattle.std.proofs.lemmas.List.{length-map}
 use Rattle.std.proofs.lemmas.List.Elements.{All-nil, All-append, All-map, All-weaker}
 use Rattle.std.proofs.lemmas.Option.{slice_get_within}
 use Rattle.cl_actor.specs.Acting.{noted_in, unmoved, is_now, delivery, is_handling_spent}
+use Rattle.cl_actor.specs.Core.{receivers}
 use Rattle.cl_endpoint.specs.declared.received.Received.TheVariants.{Now}
 use Rattle.cl_endpoint.specs.Endpoint.{EndpointState, link_to, set_number, received, after_receive, is_spent_to}
 use Rattle.cl_exchange.proofs.Runs.{events_fit, events_keep_sound, runs_are_replica_runs}
@@ -16,8 +17,8 @@ use Rattle.cl_link.specs.LinkState.{last_number}
 use Rattle.cl_lone.proofs.Lone.{calm_steps_are_lone}
 use Rattle.cl_ranges.proofs.Counts.{stays_few}
 use Rattle.cl_ranges.proofs.Events.{in_range_at_first, events_keep_range}
-use Rattle.cl_ranges.proofs.Given.{IsActing, sends_behind, receivers_in, first_marks}
-use Rattle.cl_ranges.proofs.Steps.{event_step, now_from, AreTogether, noted_is, head_waits, head_gives, same_step}
+use Rattle.cl_ranges.proofs.Given.{IsActing, sends_behind}
+use Rattle.cl_ranges.proofs.Steps.{event_step, now_from, AreTogether, noted_is, head_waits, same_step}
 use Rattle.cl_ranges.specs.Laws.{IsUnspentEvent, GivenIsInRange, PacketsAreInRange}
 use Rattle.cl_ranges.specs.Ranges.{IsWorldInRange}
 use Rattle.cl_ranges.specs.Spent.{is_core_delivery_spent, is_packet_spent, is_core_line_spent, is_spent, IsUnspentRun}
@@ -54,11 +55,12 @@ module _ (shape : Shape) (size : IsClusterSize shape.nodes shape.spares) (watche
   world = watched.world
 
   -- a packet is handled
-  module _ (me : ℕ) (m : Message) (faithful : IsFaithful (endpoints_of watched.world) watched.given m) (here : m.to ≡ me)
-      (unspent : is_handling_spent (delivered_core me) is_core_delivery_spent (watched.world.actors me) m ≡ false) where
+  module _ (me : ℕ) (m : Message) (mark : Bool) (faithful : IsFaithful (endpoints_of watched.world) watched.given m) (here : m.to ≡ me)
+      (unspent : is_handling_spent (delivered_core me) is_core_delivery_spent (watched.world.actors me) m mark ≡ false) where
     tests : received (world.actors me).endpoint m.from m.seq ≡ Now →
         (is_core_delivery_spent (noted_in (world.actors me).endpoint) (world.actors me).core m.from m.content ≡ false)
-        × (is_spent_to (after_receive (world.actors me).endpoint m.from m.seq m.ack) (receivers_in (delivery (delivered_core me) (world.actors me) m false).step) ≡ false)
+        × (is_spent_to (after_receive (world.actors me).endpoint m.from m.seq m.ack)
+        (receivers (delivery (delivered_core me) (world.actors me) m mark)) ≡ false)
     tests now = or_parts _ _ (both_false _ _ unspent (ap is_now now))
 
     -- the front needs no transaction number above the limit
@@ -72,19 +74,21 @@ module _ (shape : Shape) (size : IsClusterSize shape.nodes shape.spares) (watche
         subst₂ (λ noted asked. at_front.is_delivery_spent noted state.front m.from asked ≡ false) (sym (noted_is shape size watched state is me)) same
         (subst (λ core. is_core_delivery_spent (noted_in (world.actors me).endpoint) core m.from m.content ≡ false) core (tests now).0)
 
-    packet_unspent : (mark : Bool) → IsUnspentEvent shape state (event_on world me mark (Some m))
-    packet_unspent mark = by (is_now (received (world.actors me).endpoint m.from m.seq)) refl
+    packet_unspent : IsUnspentEvent shape state (event_on world me mark (Some m))
+    packet_unspent = by (is_now (received (world.actors me).endpoint m.from m.seq)) refl
       where
         by : (now : Bool) → is_now (received (world.actors me).endpoint m.from m.seq) ≡ now → IsUnspentEvent shape state (cond now (deliver m.from me mark) nothing)
         by true now = front_unspent (now_from (received (world.actors me).endpoint m.from m.seq) now)
         by false not_now = tt
 
   -- likewise in any event
-  event_unspent : (happening : Happening) (mark : Bool) → IsEnabledWidely shape watched.world happening → is_spent watched.world happening ≡ false → IsUnspentEvent shape state (queue_event_of watched.world happening mark)
+  event_unspent : (happening : Happening) (mark : Bool) → IsEnabledWidely shape watched.world happening → is_spent watched.world happening mark ≡ false →
+      IsUnspentEvent shape state (queue_event_of watched.world happening mark)
   unfolding queue_event_of is_spent
   event_unspent (handle actor id) mark may unspent =
-      subst (λ (found : Option Message). is_packet_spent world actor found ≡ false → IsUnspentEvent shape state (event_on world actor mark found)) (sym may.emitted)
-      (λ unspent. packet_unspent actor may.packet (emitted_faithful shape world watched.given id may.packet is.links may.emitted) may.addressed unspent mark) unspent
+      subst (λ (found : Option Message). is_packet_spent world actor found mark ≡ false → IsUnspentEvent shape state (event_on world actor mark found))
+      (sym may.emitted)
+      (packet_unspent actor may.packet mark (emitted_faithful shape world watched.given id may.packet is.links may.emitted) may.addressed) unspent
   event_unspent (tick actor) mark may unspent = tt
   event_unspent (feed number text said) mark may unspent =
       subst₂ (λ noted core. is_core_line_spent noted core number text said ≡ false) (sym (noted_is shape size watched state is FRONT)) is.alike.front (or_parts _ _ unspent).0
@@ -105,20 +109,19 @@ module _ (shape : Shape) (size : IsClusterSize shape.nodes shape.spares) (watche
     nothing_few me to tag = stays_few (world.actors me).endpoint to tag (watched.given me to) [] (is.links.linked me to).pair.order.numbered (few me to) (none_spent (world.actors me).endpoint)
 
     -- a packet that is accepted now
-    now_few : (me : ℕ) (m : Message) (mark : Bool) → IsFaithful (endpoints_of watched.world) watched.given m → m.to ≡ me → is_handling_spent (delivered_core me) is_core_delivery_spent (watched.world.actors me) m ≡ false →
+    now_few : (me : ℕ) (m : Message) (mark : Bool) → IsFaithful (endpoints_of watched.world) watched.given m → m.to ≡ me →
+        is_handling_spent (delivered_core me) is_core_delivery_spent (watched.world.actors me) m mark ≡ false →
         received (watched.world.actors me).endpoint m.from m.seq ≡ Now → StaysFew me (delivery (delivered_core me) (watched.world.actors me) m mark).step.sends
     now_few me m mark faithful here unspent now to tag =
         let heard : EndpointState = after_receive (world.actors me).endpoint m.from m.seq m.ack in
         let numbered : last_number (link_to heard to) ≡ length (contents_of (watched.given me to))
         = subst (λ (end : EndpointState). last_number (link_to end to) ≡ length (contents_of (watched.given me to))) (cond-true _ _ _ (eq-eqb me me refl))
         ((linked_received shape world watched.given me m is.links faithful here).linked me to).pair.order.numbered in
-        let same : receivers_in (delivery (delivered_core me) (world.actors me) m mark).step ≡ receivers_in (delivery (delivered_core me) (world.actors me) m false).step
-        = ap receivers_in (head_gives shape size watched state is me m mark faithful here now)
-        ∙ (first_marks shape state m.from me mark (state.mail m.from me) ∙ ap receivers_in (sym (head_gives shape size watched state is me m false faithful here now))) in
         stays_few heard to tag (watched.given me to) (delivery (delivered_core me) (world.actors me) m mark).step.sends numbered (few me to)
-        (ap (is_spent_to heard) same ∙ (tests me m faithful here unspent now).1)
+        (tests me m mark faithful here unspent now).1
 
-    packet_few : (me : ℕ) (m : Message) (mark : Bool) → IsFaithful (endpoints_of watched.world) watched.given m → m.to ≡ me → is_handling_spent (delivered_core me) is_core_delivery_spent (watched.world.actors me) m ≡ false →
+    packet_few : (me : ℕ) (m : Message) (mark : Bool) → IsFaithful (endpoints_of watched.world) watched.given m → m.to ≡ me →
+        is_handling_spent (delivered_core me) is_core_delivery_spent (watched.world.actors me) m mark ≡ false →
         StaysFew me (step_on (system shape.nodes) (watched.world.actors me) me mark (Some m)).step.sends
     packet_few me m mark faithful here unspent = by (is_now (received (world.actors me).endpoint m.from m.seq)) refl
       where
@@ -127,11 +130,12 @@ module _ (shape : Shape) (size : IsClusterSize shape.nodes shape.spares) (watche
         by true now = now_few me m mark faithful here unspent (now_from (received (world.actors me).endpoint m.from m.seq) now)
         by false not_now = nothing_few me
 
-    event_few : (happening : Happening) (mark : Bool) → IsEnabledWidely shape watched.world happening → is_spent watched.world happening ≡ false →
+    event_few : (happening : Happening) (mark : Bool) → IsEnabledWidely shape watched.world happening → is_spent watched.world happening mark ≡ false →
         StaysFew (actor_of happening) (core_step (system shape.nodes) watched.world happening mark).step.sends
     unfolding is_spent
     event_few (handle actor id) mark may unspent =
-        subst (λ (found : Option Message). is_packet_spent world actor found ≡ false → StaysFew actor (step_on (system shape.nodes) (world.actors actor) actor mark found).step.sends) (sym may.emitted)
+        subst (λ (found : Option Message). is_packet_spent world actor found mark ≡ false →
+        StaysFew actor (step_on (system shape.nodes) (world.actors actor) actor mark found).step.sends) (sym may.emitted)
         (packet_few actor may.packet mark (emitted_faithful shape world watched.given id may.packet is.links may.emitted) may.addressed) unspent
     event_few (tick actor) mark may unspent = nothing_few actor
     event_few (feed number text said) mark may unspent =
@@ -175,7 +179,8 @@ few_more given me tag sends few new from to =
     (λ here. subst (λ n. length (given n to ++ tagged tag (sent_to to sends)) ≤ NUMBER_MAX) (sym (eqb-true from me here)) (new to tag)) (λ elsewhere. few from to)
 
 module _ (shape : Shape) (size : IsClusterSize shape.nodes shape.spares) where
-  event_run : (watched : Watched Core) (state : ReplicaWorld) (event : Happening × Bool) → IsRunInRange shape watched state → IsEnabledWidely shape watched.world event.0 → is_spent watched.world event.0 ≡ false →
+  event_run : (watched : Watched Core) (state : ReplicaWorld) (event : Happening × Bool) → IsRunInRange shape watched state →
+      IsEnabledWidely shape watched.world event.0 → is_spent watched.world event.0 event.1 ≡ false →
       IsRunInRange shape (after_watched (system shape.nodes) watched event) (after_replica_event shape state (queue_event_of watched.world event.0 event.1))
   event_run watched state (happening, mark) is may unspent =
       let both : AreTogether shape watched state = is.together in
@@ -207,7 +212,7 @@ module _ (shape : Shape) (size : IsClusterSize shape.nodes shape.spares) where
 
   run_fold : (run : Run) (watched : Watched Core) (state : ReplicaWorld) → IsRunInRange shape watched state →
       EachMayHappen (λ world event. IsEnabledWidely shape world event.0) (after_event (system shape.nodes)) run watched.world →
-      EachMayHappen (λ world event. is_spent world event.0 ≡ false) (after_event (system shape.nodes)) run watched.world →
+      EachMayHappen (λ world event. is_spent world event.0 event.1 ≡ false) (after_event (system shape.nodes)) run watched.world →
       (after : ReplicaWorld) × IsRunInRange shape (fold (after_watched (system shape.nodes)) watched run) after
   run_fold [] watched state is may unspent = (state, is)
   run_fold (event ∷ run) watched state is may unspent =

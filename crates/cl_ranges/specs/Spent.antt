@@ -20,18 +20,19 @@ abbrev pub is_core_line_spent : Noted → Core → ℕ → List ℕ → List Out
 is_core_line_spent noted (front state) number text said = at_front.is_line_spent noted state number text said
 is_core_line_spent noted (node state) number text said = at_node.is_line_spent noted state number text said
 
--- whether an actor needs a number above its limit for a packet, if there is one
-abbrev pub is_packet_spent : World Core → ℕ → Option Message → Bool
-is_packet_spent world actor None = false
-is_packet_spent world actor (Some m) = is_handling_spent (delivered_core actor) is_core_delivery_spent (world.actors actor) m
+-- whether an actor needs a number above its limit for a packet, if there is one, in a step with this mark
+abbrev pub is_packet_spent : World Core → ℕ → Option Message → Bool → Bool
+is_packet_spent world actor None mark = false
+is_packet_spent world actor (Some m) mark = is_handling_spent (delivered_core actor) is_core_delivery_spent (world.actors actor) m mark
 
--- whether the step of an event needs a number above its limit
-unfoldable pub is_spent : World Core → Happening → Bool
-is_spent world (handle actor id) = is_packet_spent world actor (packet_at world id)
-is_spent world (tick actor) = false
-is_spent world (feed number text said) = is_feeding_spent (fed_core FRONT) is_core_line_spent (world.actors FRONT) number text said
-is_spent world quiet = false
+-- whether the step of an event with this mark needs a number above its limit
+unfoldable pub is_spent : World Core → Happening → Bool → Bool
+is_spent world (handle actor id) mark = is_packet_spent world actor (packet_at world id) mark
+is_spent world (tick actor) mark = false
+is_spent world (feed number text said) mark = is_feeding_spent (fed_core FRONT) is_core_line_spent (world.actors FRONT) number text said
+is_spent world quiet mark = false
 
--- no step of the run is spent in its turn
+-- no step of the run is spent in its turn, with the mark that it has
 unfoldable pub IsUnspentRun : Shape → Run → Type 0
-IsUnspentRun shape run = EachMayHappen (λ world event. is_spent world event.0 ≡ false) (after_event (system shape.nodes)) run (first_world (system shape.nodes) shape)
+IsUnspentRun shape run =
+    EachMayHappen (λ world event. is_spent world event.0 event.1 ≡ false) (after_event (system shape.nodes)) run (first_world (system shape.nodes) shape)

@@ -29,10 +29,10 @@ abbrev pub to_happen : Shape → Setting → FatesOf → Course → Bool → Lis
 to_happen shape setting fates last true = quiet ∷ []
 to_happen shape setting fates last false = next_events shape setting fates last
 
--- the next of these needs a number above its limit
+-- the next of these, with no mark, needs a number above its limit
 abbrev pub IsFirstSpent : Shape → Run → List Happening → Type 0
 IsFirstSpent shape run [] = ⊥
-IsFirstSpent shape run (happening ∷ rest) = is_spent (moment_after shape run) happening ≡ true
+IsFirstSpent shape run (happening ∷ rest) = is_spent (moment_after shape run) happening false ≡ true
 
 -- the turns are done
 pub record HasScheduled (shape : Shape) (setting : Setting) (fates : FatesOf) (before after : World) (run : Run) (lines : List (List ℕ)) (finish : Finish) : Type 0 where

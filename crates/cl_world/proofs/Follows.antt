@@ -133,10 +133,10 @@ push_each P next (first ∷ events) state event each last = (each.0, push_each P
 
 -- a run of which no step is spent, with one event more that is not
 unspent_on : (shape : Shape) (run : Run) (happening : Happening) (mark : Bool) → IsUnspentRun shape run →
-    is_spent (moment_after shape run) happening ≡ false → IsUnspentRun shape (run ++ (happening, mark) ∷ [])
+    is_spent (moment_after shape run) happening mark ≡ false → IsUnspentRun shape (run ++ (happening, mark) ∷ [])
 unfolding IsUnspentRun world_after
 unspent_on shape run happening mark unspent last =
-    push_each (λ (world : Moment) (event : Happening × Bool). is_spent world event.0 ≡ false) (after_event (system shape.nodes)) run
+    push_each (λ (world : Moment) (event : Happening × Bool). is_spent world event.0 event.1 ≡ false) (after_event (system shape.nodes)) run
     (first_world (system shape.nodes) shape) (happening, mark) unspent last
 
 -- the run with one event more

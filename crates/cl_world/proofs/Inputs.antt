@@ -62,15 +62,17 @@ node_fits actor state (feed number text said) fits = record { core = fits.core; 
 node_fits actor state quiet fits = tt
 
 -- the same numbers are needed
-pub front_spent : (actor : ℕ) (state : FrontMachineState) (input : Input) → is_input_spent actor (front_state state) input ≡ is_front_spent state input
-front_spent actor state (handle m) = refl
-front_spent actor state tick = refl
-front_spent actor state (feed number text said) = refl
-front_spent actor state quiet = refl
+pub front_spent : (actor : ℕ) (state : FrontMachineState) (input : Input) (mark : Bool) →
+    is_input_spent actor (front_state state) input mark ≡ is_front_spent state input mark
+front_spent actor state (handle m) mark = refl
+front_spent actor state tick mark = refl
+front_spent actor state (feed number text said) mark = refl
+front_spent actor state quiet mark = refl
 
 -- the same numbers are needed
-pub node_spent : (actor : ℕ) (state : NodeMachineState) (input : Input) → is_input_spent actor (node_state state) input ≡ is_node_spent state input
-node_spent actor state (handle m) = refl
-node_spent actor state tick = refl
-node_spent actor state (feed number text said) = refl
-node_spent actor state quiet = refl
+pub node_spent : (actor : ℕ) (state : NodeMachineState) (input : Input) (mark : Bool) →
+    is_input_spent actor (node_state state) input mark ≡ is_node_spent state input mark
+node_spent actor state (handle m) mark = refl
+node_spent actor state tick mark = refl
+node_spent actor state (feed number text said) mark = refl
+node_spent actor state quiet mark = refl

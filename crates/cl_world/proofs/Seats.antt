@@ -1,12 +1,12 @@
 -- What a step of the front or of a node leaves.
-use Rattle.std.proofs.Common.{◌≡◌, ℕ, Option, Some, Result, Ok, Err, OnOk, refl, sym, ap, subst, ◌∙◌}
+use Rattle.std.proofs.Common.{◌≡◌, ℕ, Bool, false, Option, Some, Result, Ok, Err, OnOk, refl, sym, ap, subst, ◌∙◌}
 use Rattle.cl_actor.specs.Acting.{ActingState}
 use Rattle.cl_front.specs.declared.machine.Front.{Front}
 use Rattle.cl_front.specs.Machine.{FrontMachineState, IsFrontMachine, FrontFits, front_after, front_outs, is_front_spent, after_quiet, after_taking}
 use Rattle.cl_node.specs.declared.machine.Node.{Node}
 use Rattle.cl_node.specs.Machine.{NodeMachineState, IsNodeMachine, NodeFits, node_after, node_outs, is_node_spent}
 use Rattle.cl_post.specs.declared.outs.Outs.{Outs}
-use Rattle.cl_post.specs.Steps.{Input, IsStep, IsSpentWhere}
+use Rattle.cl_post.specs.Steps.{Input, IsStep, IsSpentByMark}
 use Rattle.cl_steps.specs.declared.actors.TheConstants.{FRONT}
 use Rattle.cl_system.specs.System.{Core, quieted_core}
 use Rattle.cl_types.specs.declared.answers.Refused.{Refused}
@@ -38,14 +38,21 @@ front_stepped seat machine after before input outs is here step =
     = ap (λ b. acted_core FRONT b input outs.short) h.same ∙ acted_front FRONT h.state input outs.short in
     (record { state = front_after h.state input outs.short; here = s.0; same = ap (λ a. a.0) e }, refl, s.1 ∙ sym (ap (λ a. a.1) e))
 
+-- tests that say the same of each mark say the same of a result
+pub spent_alike : (one other : Bool → Bool) (result : Result Outs Refused) → ((mark : Bool) → one mark ≡ other mark) →
+    IsSpentByMark one result → IsSpentByMark other result
+spent_alike one other (Ok made) alike is = record { unspent = sym (alike made.short) ∙ is.unspent; cause = λ e. sym (alike false) ∙ is.cause e }
+spent_alike one other (Err refused) alike is = record { unspent = tt; cause = λ e. sym (alike false) ∙ is.cause e }
+
 -- the front needs the numbers that its actor needs
-pub front_spends : {A : Type 0} (seat : FrontSeat) (machine : Front) (before : ActingState Core) (input : Input) (result : Result A Refused) → seat ≡ Here machine → IsFrontIn seat before →
-    ((state : FrontMachineState) → IsFrontMachine machine state → IsSpentWhere (is_front_spent state input) result) → IsSpentWhere (is_input_spent FRONT before input) result
+pub front_spends : (seat : FrontSeat) (machine : Front) (before : ActingState Core) (input : Input) (result : Result Outs Refused) →
+    seat ≡ Here machine → IsFrontIn seat before →
+    ((state : FrontMachineState) → IsFrontMachine machine state → IsSpentByMark (is_front_spent state input) result) →
+    IsSpentByMark (is_input_spent FRONT before input) result
 front_spends seat machine before input result is here spent =
     let h = front_of seat machine before is here in
-    let e : is_front_spent h.state input ≡ is_input_spent FRONT before input
-    = sym (ap (λ b. is_input_spent FRONT b input) h.same ∙ front_spent FRONT h.state input) in
-    subst (λ b. IsSpentWhere b result) e (spent h.state h.here)
+    spent_alike (is_front_spent h.state input) (is_input_spent FRONT before input) result
+    (λ mark. sym (ap (λ b. is_input_spent FRONT b input mark) h.same ∙ front_spent FRONT h.state input mark)) (spent h.state h.here)
 
 -- the front noted a quiet moment
 pub front_quiets : {A E : Type 0} (seat : FrontSeat) (machine after : Front) (before : ActingState Core) (result : Result A E) → seat ≡ Here machine → IsFrontIn seat before →
@@ -79,13 +86,14 @@ node_stepped slot machine after actor before input outs is here step =
     (record { state = node_after h.state input outs.short; here = s.0; same = ap (λ a. a.0) e }, refl, s.1 ∙ sym (ap (λ a. a.1) e))
 
 -- the node needs the numbers that its actor needs
-pub node_spends : {A : Type 0} (slot : Option Node) (machine : Node) (actor : ℕ) (before : ActingState Core) (input : Input) (result : Result A Refused) → slot ≡ Some machine → IsNodeIn slot before →
-    ((state : NodeMachineState) → IsNodeMachine machine state → IsSpentWhere (is_node_spent state input) result) → IsSpentWhere (is_input_spent actor before input) result
+pub node_spends : (slot : Option Node) (machine : Node) (actor : ℕ) (before : ActingState Core) (input : Input) (result : Result Outs Refused) →
+    slot ≡ Some machine → IsNodeIn slot before →
+    ((state : NodeMachineState) → IsNodeMachine machine state → IsSpentByMark (is_node_spent state input) result) →
+    IsSpentByMark (is_input_spent actor before input) result
 node_spends slot machine actor before input result is here spent =
     let h = node_of slot machine before is here in
-    let e : is_node_spent h.state input ≡ is_input_spent actor before input
-    = sym (ap (λ b. is_input_spent actor b input) h.same ∙ node_spent actor h.state input) in
-    subst (λ b. IsSpentWhere b result) e (spent h.state h.here)
+    spent_alike (is_node_spent h.state input) (is_input_spent actor before input) result
+    (λ mark. sym (ap (λ b. is_input_spent actor b input mark) h.same ∙ node_spent actor h.state input mark)) (spent h.state h.here)
 
 -- the transcript of the front is taken
 pub front_bared : (seat : FrontSeat) (machine after : Front) (actor : ActingState Core) → seat ≡ Here machine → IsFrontIn seat actor →

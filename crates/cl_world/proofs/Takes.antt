@@ -100,19 +100,19 @@ moment_of shape moment (events.Feed number text said) mark step may =
     ap (λ (n : ℕ). let moved : Moment = record (after_acting moment FRONT (acted_core FRONT (moment.actors FRONT) (inputs.feed number (items text) (items said)) mark)) { lines = n } in moved) (sym may.widely.next)
 moment_of shape moment events.Quiet mark step may = absurd step
 
-packet_spends : (moment : Moment) (actor : ℕ) (found : Option Message) →
-    is_input_spent actor (moment.actors actor) (packet_input found) ≡ is_packet_spent moment actor found
-packet_spends moment actor None = refl
-packet_spends moment actor (Some m) = refl
+packet_spends : (moment : Moment) (actor : ℕ) (found : Option Message) (mark : Bool) →
+    is_input_spent actor (moment.actors actor) (packet_input found) mark ≡ is_packet_spent moment actor found mark
+packet_spends moment actor None mark = refl
+packet_spends moment actor (Some m) mark = refl
 
 -- an event needs the numbers that the step of its actor needs
-pub step_spends : (moment : Moment) (event : Event) → IsStepEvent event →
-    is_input_spent (actor_of event) (moment.actors (actor_of event)) (input_at moment (happening_of event)) ≡ is_event_spent moment event
+pub step_spends : (moment : Moment) (event : Event) (mark : Bool) → IsStepEvent event →
+    is_input_spent (actor_of event) (moment.actors (actor_of event)) (input_at moment (happening_of event)) mark ≡ is_event_spent moment event mark
 unfolding is_spent
-step_spends moment (events.Handle actor id) step = packet_spends moment actor (packet_at moment id)
-step_spends moment (events.Tick actor) step = refl
-step_spends moment (events.Feed number text said) step = refl
-step_spends moment events.Quiet step = absurd step
+step_spends moment (events.Handle actor id) mark step = packet_spends moment actor (packet_at moment id) mark
+step_spends moment (events.Tick actor) mark step = refl
+step_spends moment (events.Feed number text said) mark step = refl
+step_spends moment events.Quiet mark step = absurd step
 
 -- what was noted of a step
 pub record IsNoted (before after : World) (event : Event) (outs : Outs) : Type 0 where
@@ -140,7 +140,7 @@ firm_after shape before after moment event outs at acted noted =
 
 -- the event was made
 pub has_taken : (shape : Shape) (before after : World) (moment : Moment) (event : Event) (outs : Outs) → IsStepEvent event → IsAt shape before moment → MayTake shape before moment event →
-    is_event_spent moment event ≡ false → HasActed shape after.actors moment.actors (actor_of event) (input_at moment (happening_of event)) outs →
+    is_event_spent moment event outs.short ≡ false → HasActed shape after.actors moment.actors (actor_of event) (input_at moment (happening_of event)) outs →
     IsNoted before after event outs → KeepsOuts shape before after outs →
     HasTaken shape before after moment event
 has_taken shape before after moment event outs step at may unspent acted noted keeps =
@@ -172,7 +172,7 @@ has_taken shape before after moment event outs step at may unspent acted noted k
 
 -- the event was made, but not all that it emitted is kept
 pub has_dropped : (shape : Shape) (before after : World) (moment : Moment) (event : Event) (outs : Outs) → IsStepEvent event → IsAt shape before moment → MayTake shape before moment event →
-    is_event_spent moment event ≡ false → HasActed shape after.actors moment.actors (actor_of event) (input_at moment (happening_of event)) outs →
+    is_event_spent moment event outs.short ≡ false → HasActed shape after.actors moment.actors (actor_of event) (input_at moment (happening_of event)) outs →
     IsNoted before after event outs → HasDropped shape before after moment event NoMemory
 has_dropped shape before after moment event outs step at may unspent acted noted =
     let same : acted_moment moment event outs.short ≡ moment_with shape moment event outs.short = sym (moment_of shape moment event outs.short step may.enabled) in
@@ -186,7 +186,7 @@ has_dropped shape before after moment event outs step at may unspent acted noted
 -- nothing happened
 pub has_lost : (shape : Shape) (before after : World) (moment : Moment) (event : Event) (refused : Refused) → IsAt shape before moment → HasFailed shape after.actors moment.actors (actor_of event) →
     firm_in after.firm ≡ firm_in before.firm → after.roster ≡ before.roster → entries after.trace ≡ entries before.trace →
-    (refused ≡ Spent → is_event_spent moment event ≡ true) → HasLost shape before after moment event refused
+    (refused ≡ Spent → is_event_spent moment event false ≡ true) → HasLost shape before after moment event refused
 has_lost shape before after moment event refused at failed firm roster trace spent = record {
   left = record { actors = failed.same; history = firm ∙ at.history; roster = subst (IsFirstRoster shape) (sym roster) at.roster };
   others = failed.there;
@@ -290,7 +290,7 @@ gives_up shape before middle after moment event outs actor step at may acted ne 
 
 -- what was noted of a step, and whether all its packets are kept
 pub noted_result : (shape : Shape) (before after : World) (moment : Moment) (event : Event) (outs : Outs) (kept : Result (Unit {0}) OutOfMemory) → IsStepEvent event → IsAt shape before moment → MayTake shape before moment event →
-    is_event_spent moment event ≡ false → HasActed shape after.actors moment.actors (actor_of event) (input_at moment (happening_of event)) outs →
+    is_event_spent moment event outs.short ≡ false → HasActed shape after.actors moment.actors (actor_of event) (input_at moment (happening_of event)) outs →
     IsNoted before after event outs → OnOk kept (KeepsOuts shape before after outs) →
     IsTaken shape before after moment event (refused_of kept)
 noted_result shape before after moment event outs (Ok done) step at may unspent acted noted keeps =

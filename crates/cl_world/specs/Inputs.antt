@@ -24,7 +24,7 @@ acted_core actor before input mark = acted (delivered_core actor) (fed_core acto
 abbrev pub InputFits : ℕ → ActingState Core → Input → Type 0
 InputFits actor before input = ActingFits (delivered_core actor) (fed_core actor) CoreDeliveryFits CoreLineFits before input
 
--- the step needs a number above its limit
-abbrev pub is_input_spent : ℕ → ActingState Core → Input → Bool
-is_input_spent actor before input =
-    is_acting_spent (delivered_core actor) (fed_core actor) is_core_delivery_spent is_core_line_spent before input
+-- the step with this mark needs a number above its limit
+abbrev pub is_input_spent : ℕ → ActingState Core → Input → Bool → Bool
+is_input_spent actor before input mark =
+    is_acting_spent (delivered_core actor) (fed_core actor) is_core_delivery_spent is_core_line_spent before input mark

@@ -1,5 +1,5 @@
 -- What a list of events makes of a world.
-use Rattle.std.specs.Prelude.{◌≡◌, Bool, true, List, [], ◌∷◌, ◌++◌, map, Result, Ok, Err}
+use Rattle.std.specs.Prelude.{◌≡◌, Bool, true, false, List, [], ◌∷◌, ◌++◌, map, Result, Ok, Err}
 use Rattle.std.specs.List.{All}
 use Rattle.cl_post.specs.declared.event.Event.{Event}
 use Rattle.cl_ranges.specs.Spent.{IsUnspentRun}
@@ -52,10 +52,10 @@ abbrev pub AreOthersOf : Shape → World → List Event → Type 0
 AreOthersOf shape made [] = AreAllThere shape made.actors
 AreOthersOf shape made (event ∷ rest) = AreOthersThere shape made.actors (actor_of event)
 
--- the next event needs a number above its limit
+-- the next event, with no mark, needs a number above its limit
 abbrev pub IsNextSpent : Moment → List Event → Type 0
 IsNextSpent moment [] = ⊥
-IsNextSpent moment (event ∷ rest) = is_event_spent moment event ≡ true
+IsNextSpent moment (event ∷ rest) = is_event_spent moment event false ≡ true
 
 -- the world has made the first of these events, and not the rest
 pub record HasStopped (shape : Shape) (after : World) (run : Run) (events : List Event) (refused : Refused) : Type 0 where

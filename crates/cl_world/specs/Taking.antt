@@ -62,9 +62,9 @@ input_at moment (tick actor) = inputs.tick
 input_at moment (feed number text said) = inputs.feed number text said
 input_at moment quiet = inputs.quiet
 
--- the event needs a number above its limit
-abbrev pub is_event_spent : Moment → Event → Bool
-is_event_spent moment event = is_spent moment (happening_of event)
+-- the event with this mark needs a number above its limit
+abbrev pub is_event_spent : Moment → Event → Bool → Bool
+is_event_spent moment event mark = is_spent moment (happening_of event) mark
 
 -- the system after an event with its mark
 abbrev pub moment_with : Shape → Moment → Event → Bool → Moment
@@ -91,7 +91,7 @@ pub record KeepsEmitted (shape : Shape) (before after : World) (from to : Moment
 -- the event was made
 pub record HasTaken (shape : Shape) (before after : World) (moment : Moment) (event : Event) : Type 0 where
   pub mark : Bool
-  pub unspent : is_event_spent moment event ≡ false
+  pub unspent : is_event_spent moment event mark ≡ false
   pub now : IsAt shape after (moment_with shape moment event mark)
   pub whole : IsWhole shape after
   pub trace : run_of (entries after.trace) ≡ run_of (entries before.trace) ++ (happening_of event, mark) ∷ []
@@ -103,17 +103,17 @@ pub record IsLeftAt (shape : Shape) (made : World) (moment : Moment) : Type 0 wh
   pub history : firm_in made.firm ≡ moment.history
   pub roster : IsFirstRoster shape made.roster
 
--- the event was not made: its actor may be gone, and it is spent only where its step is
+-- the event was not made: its actor may be gone, and it is refused as spent only where its step with no mark is spent
 pub record HasLost (shape : Shape) (before after : World) (moment : Moment) (event : Event) (refused : Refused) : Type 0 where
   pub left : IsLeftAt shape after moment
   pub others : AreOthersThere shape after.actors (actor_of event)
   pub trace : run_of (entries after.trace) ≡ run_of (entries before.trace)
-  pub spent : refused ≡ Spent → is_event_spent moment event ≡ true
+  pub spent : refused ≡ Spent → is_event_spent moment event false ≡ true
 
 -- the event was made, but not all that it emitted could be kept
 pub record HasDropped (shape : Shape) (before after : World) (moment : Moment) (event : Event) (refused : Refused) : Type 0 where
   pub mark : Bool
-  pub unspent : is_event_spent moment event ≡ false
+  pub unspent : is_event_spent moment event mark ≡ false
   pub left : IsLeftAt shape after (moment_with shape moment event mark)
   pub whole : IsWhole shape after
   pub trace : run_of (entries after.trace) ≡ run_of (entries before.trace) ++ (happening_of event, mark) ∷ []

@@ -2,7 +2,7 @@
 ghost use Rattle.std.specs.Prelude.{◌≡◌, ◌<◌, ◌+◌, IfOk, None, length};
 ghost use Rattle.std.specs.Vec.{with_item};
 ghost use Rattle.std.specs.Option.{option_copied};
-ghost use Rattle.cl_post.specs.Steps.{IsSpentWhere};
+ghost use Rattle.cl_post.specs.Steps.{IsSpentByMark};
 ghost use Rattle.cl_roster.specs.Roster.{IsClusterSize};
 ghost use Rattle.cl_runs.specs.World.{Shape};
 ghost use Rattle.cl_world.specs.Actors.{States, AreActors, AreAllThere, IsActorStep, MayAct, AreFirstMembers, first_states, is_waiting_at, member_at};
@@ -61,7 +61,7 @@ impl Actors {
         ensures step { (shape : Shape) (states : States) → MayAct shape self.old states actor (input_of given.now)
             → IsActorStep shape self.new states actor (input_of given.now) result }
         ensures spent { (shape : Shape) (states : States) → MayAct shape self.old states actor (input_of given.now)
-            → IsSpentWhere (is_input_spent actor (states actor) (input_of given.now)) result }
+            → IsSpentByMark (is_input_spent actor (states actor) (input_of given.now)) result }
     {
         if actor == FRONT {
             return self.front.step(given);

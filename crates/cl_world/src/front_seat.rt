@@ -17,7 +17,7 @@ pub(crate) enum FrontSeat {
 impl FrontSeat {
     ghost use Rattle.std.specs.Prelude.{◌≡◌, ◌↔◌, true, is_some, IsTrue, OnOk, OnErr};
     ghost use Rattle.cl_actor.specs.Acting.{ActingState};
-    ghost use Rattle.cl_post.specs.Steps.{IsSpentWhere};
+    ghost use Rattle.cl_post.specs.Steps.{IsSpentByMark};
     ghost use Rattle.cl_serial.specs.Transcript.{transcript_of};
     ghost use Rattle.cl_steps.specs.declared.actors.TheConstants.{FRONT};
     ghost use Rattle.cl_system.specs.System.{Core, quieted_core};
@@ -30,7 +30,7 @@ impl FrontSeat {
         requires here { is_here self.old ≡ true }
         requires fits { (before : ActingState Core) × IsFrontIn self.old before × InputFits FRONT before (input_of given.now) }
         ensures step { (before : ActingState Core) → IsFrontIn self.old before → IsFrontStep self.new before (input_of given.now) result }
-        ensures spent { (before : ActingState Core) → IsFrontIn self.old before → IsSpentWhere (is_input_spent FRONT before (input_of given.now)) result }
+        ensures spent { (before : ActingState Core) → IsFrontIn self.old before → IsSpentByMark (is_input_spent FRONT before (input_of given.now)) result }
     {
         match self {
             FrontSeat::Here(front) => match step(front, given) {

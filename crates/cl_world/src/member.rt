@@ -1,7 +1,7 @@
 //! The place of a node.
 ghost use Rattle.std.specs.Prelude.{ℕ, false, IsTrue, ◌↔◌, Option, Some, IsSome};
 ghost use Rattle.cl_actor.specs.Acting.{ActingState};
-ghost use Rattle.cl_post.specs.Steps.{IsSpentWhere};
+ghost use Rattle.cl_post.specs.Steps.{IsSpentByMark};
 ghost use Rattle.cl_system.specs.System.{Core};
 ghost use Rattle.cl_world.specs.Actors.{IsNodeIn, IsNodeStep, IsResting};
 ghost use Rattle.cl_world.specs.Inputs.{input_of, InputFits, is_input_spent};
@@ -17,7 +17,8 @@ pub(crate) fn step_node(slot: &mut Option<Node>, given: &Given) -> Result<Outs, 
     requires there { IsSome slot.old }
     requires fits { (actor : ℕ) × (before : ActingState Core) × IsNodeIn slot.old before × InputFits actor before (input_of given.now) }
     ensures step { (actor : ℕ) (before : ActingState Core) → IsNodeIn slot.old before → IsNodeStep slot.new actor before (input_of given.now) result }
-    ensures spent { (actor : ℕ) (before : ActingState Core) → IsNodeIn slot.old before → IsSpentWhere (is_input_spent actor before (input_of given.now)) result }
+    ensures spent { (actor : ℕ) (before : ActingState Core) → IsNodeIn slot.old before
+        → IsSpentByMark (is_input_spent actor before (input_of given.now)) result }
 {
     match slot {
         Some(node) => match step(node, given) {

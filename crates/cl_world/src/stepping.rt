@@ -1,5 +1,5 @@
 //! One step of one actor.
-ghost use Rattle.cl_post.specs.Steps.{IsStep, IsSpentWhere};
+ghost use Rattle.cl_post.specs.Steps.{IsStep, IsSpentByMark};
 ghost use Rattle.std.specs.Prelude.{OnErr, ◌≡◌};
 ghost use Rattle.cl_world.specs.Inputs.{input_of};
 
@@ -12,7 +12,7 @@ pub(crate) fn step<M: Machine>(machine: &mut M, given: &Given) -> Result<Outs, R
     requires { (before : M.State) × M.is_state machine.old before × M.fits before (input_of given.now) }
     ensures step { (before : M.State) → M.is_state machine.old before
         → IsStep (M.is_state machine.new) (M.after before (input_of given.now)) (M.outs before (input_of given.now)) result }
-    ensures spent { (before : M.State) → M.is_state machine.old before → IsSpentWhere (M.is_spent before (input_of given.now)) result }
+    ensures spent { (before : M.State) → M.is_state machine.old before → IsSpentByMark (M.is_spent before (input_of given.now)) result }
     ensures refused { OnErr result (M.transcript machine.new ≡ M.transcript machine.old) }
 {
     match given {

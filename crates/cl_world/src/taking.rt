@@ -1,6 +1,6 @@
 //! One event.
 ghost use Rattle.std.specs.Prelude.{◌≡◌, ◌∷◌, ◌++◌, ◌+◌, ◌≤◌, [], map, false, IfOk, OnOk, length};
-ghost use Rattle.cl_post.specs.Steps.{IsSpentWhere};
+ghost use Rattle.cl_post.specs.Steps.{IsSpentByMark};
 ghost use Rattle.cl_runs.specs.World.{Shape, with_firm};
 ghost use Rattle.cl_types.specs.AppendOnlyList.{entries, room};
 ghost use Rattle.cl_types.specs.GrowingList.{items};
@@ -94,7 +94,7 @@ impl World {
         ensures step { (shape : Shape) (moment : Moment) → IsAt shape self.old moment → MayTake shape self.old moment event.now
             → IsActorStep shape self.new.actors moment.actors (actor_of event.now) (input_at moment (happening_of event.now)) result }
         ensures spent { (shape : Shape) (moment : Moment) → IsAt shape self.old moment → MayTake shape self.old moment event.now
-            → IsSpentWhere (is_event_spent moment event.now) result }
+            → IsSpentByMark (is_event_spent moment event.now) result }
         ensures same { self.new ≡ record self.old { actors = self.new.actors } }
     {
         let given = given_by(&self.mail, event);

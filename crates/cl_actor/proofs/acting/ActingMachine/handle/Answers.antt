@@ -34,7 +34,7 @@ finish-requires-clause-sends g c =
     let fit = c.requires.fits in
     let met = meets g (goal.at.finish-requires-clause-sends g c).After-roster fit.0.endpoint fit.1.1 in
     sends_to_actors g.C.Core.delivered fit.0 (message_of c.args.packet.now) _ c.in_ok-steps-in-Now.steps met.tells (c.in_ok-steps-in-Now.ensures.step fit.0.core fit.1.0).1
-    (λ mark. g.met.C.Core.marks_alike _ _ _ _ _ mark fit.1.0) (fit.2.sends met.now)
+    (g.met.C.Core.fewer_by_mark _ _ _ _ _ fit.1.0) (fit.2.sends met.now)
 
 pub returns-in_ok-steps-in-Now-clause-step : goal.returns-in_ok-steps-in-Now-clause-step
 returns-in_ok-steps-in-Now-clause-step g c before is =
@@ -46,4 +46,4 @@ pub returns-in_ok-steps-in-Now-clause-spent : goal.returns-in_ok-steps-in-Now-cl
 returns-in_ok-steps-in-Now-clause-spent g c before is =
     let met = meets g (goal.at.returns-in_ok-steps-in-Now-clause-spent g c).After-roster before.endpoint is.1 in
     accepted_is_spent g.C.Core.delivered before (message_of c.args.packet.now) _ c.in_ok-steps-in-Now.steps met.tells (c.in_ok-steps-in-Now.ensures.step before.core is.0).1
-    (λ mark. g.met.C.Core.marks_alike _ _ _ _ _ mark is.0) _ _ g.C.Core.is_delivery_spent c.finish.result met (c.in_ok-steps-in-Now.ensures.spent before.core is.0) c.finish.ensures.spent
+    (g.met.C.Core.fewer_by_mark _ _ _ _ _ is.0) _ _ g.C.Core.is_delivery_spent c.finish.result met (c.in_ok-steps-in-Now.ensures.spent before.core is.0) c.finish.ensures.outs c.finish.ensures.spent
