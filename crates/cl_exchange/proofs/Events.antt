@@ -30,7 +30,7 @@ use Rattle.cl_types.specs.Placement.{IsNodeCount}
 use Rattle.cl_types.specs.declared.limits.TheConstants.{SESSIONS_MAX}
 use Rattle.cl_types.specs.declared.operations.Command.{Command as ClientCommand}
 use Rattle.cl_types.specs.declared.operations.TxnId.{TxnId}
-use Rattle.cl_vnode.specs.Inputs.{MayCome, Fits}
+use Rattle.cl_vnode.specs.Inputs.{MayCome, Fits, IsStandbyBelow}
 use Rattle.cl_vnode.specs.Step.{home_of}
 use Rattle.cl_wire.specs.Message.{Content, Command, Outcome, Ask, Answer, Prepare, Vote, Finish}
 
@@ -55,7 +55,11 @@ module _ (shape : Shape) (counted : IsNodeCount shape.nodes) (world : ReplicaWor
   replica_fits : (from to : ℕ) (content : Content) → to < shape.nodes → MayCome (world.replicas to) content → MessageFits shape world from to content
   replica_fits from to content below comes =
       let away : eqb to FRONT ≡ false = (home_apart shape.nodes to counted below).1 in
-      let fits : Fits shape.nodes (world.replicas to) content = record { same_nodes = sym (nodes_are to below); comes = comes } in
+      let fits : Fits shape.nodes (world.replicas to) content = record {
+        same_nodes = sym (nodes_are to below);
+        comes = comes;
+        standby = subst IsStandbyBelow (sym (sound.places.replicas to below).calm.lone) tt;
+      } in
       rw away fits
 
   command_comes : (v number : ℕ) (txn : TxnId) (what : ClientCommand) (rest : List Content) → IsOfSession txn → world.mail FRONT (txn.session % shape.nodes) ≡ Command v txn number what ∷ rest →

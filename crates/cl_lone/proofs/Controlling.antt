@@ -23,6 +23,7 @@ use Rattle.cl_control.proofs.Kept.{phase-found, voting-found}
 use Rattle.cl_control.proofs.Soundness.{sound-without}
 use Rattle.cl_steps.specs.declared.steps.Outgoing.{Outgoing}
 use Rattle.cl_vnode.specs.Inputs.{is_decide, has_decide}
+use Rattle.cl_repair.specs.declared.mode.Mode.TheVariants.{Lone}
 use Rattle.cl_vnode.specs.Replica.{ReplicaState, safe_number}
 use Rattle.cl_vnode.specs.Step.{Stepped, started, with_control, performed, all_performed, all_told}
 use Rattle.cl_vnode.proofs.Performing.{with_messages}
@@ -49,11 +50,12 @@ all_sent primary done (act ∷ list) none =
     ∙ ap (λ (ms : List Outgoing). record done { step = record done.step { sends = ms } }) (append_assoc done.step.sends (message_of primary act) (messages_of primary list))
 
 -- and nothing becomes safe
-pub controlled_told : (primary : ℕ → ℕ) (state : ReplicaState) (control : ControlState) (list : List Act) → IsBelow state.part → has_decide list ≡ false →
+pub controlled_told : (primary : ℕ → ℕ) (state : ReplicaState) (control : ControlState) (list : List Act) → IsBelow state.part → state.modes.mode ≡ Lone →
+    has_decide list ≡ false →
     all_told primary (safe_number state) (all_performed primary (with_control (started state) control) list) ≡ controlled primary state control list
-controlled_told primary state control list is none =
+controlled_told primary state control list is alone none =
     ap (all_told primary (safe_number state)) (all_sent primary (with_control (started state) control) list none)
-    ∙ none_told primary state is (controlled primary state control list) (grown-none state.part is)
+    ∙ none_told primary state is alone (controlled primary state control list) (grown-none state.part is)
 
 -- ---- between two steps
 

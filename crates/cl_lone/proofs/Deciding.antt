@@ -17,12 +17,15 @@ use Rattle.cl_control.specs.Calls.{finishes, is_decided, is_logged, logged, numb
 use Rattle.cl_control.specs.State.{Entry, ControlState, ascending, entry_of, phase_of, participants_of, changed, with_changed, without, without_entry}
 use Rattle.cl_control.proofs.Entries.{names, names-changed, entry_named-changed, without_told-logged}
 use Rattle.cl_part.specs.Calls.{after_decide}
+use Rattle.cl_backup.specs.Decisions.{with_decision}
+use Rattle.cl_repair.specs.declared.mode.Mode.{Mode}
+use Rattle.cl_repair.specs.declared.mode.Mode.TheVariants.{Lone}
 use Rattle.cl_steps.specs.Steps.{nothing_done}
 use Rattle.cl_vnode.specs.Inputs.{has_decide}
 use Rattle.cl_vnode.specs.Replica.{ReplicaState, safe_number}
 use Rattle.cl_vnode.specs.Step.{Stepped, started, with_control, firm_at_once, decided, performed, all_performed, told, all_told}
 use Rattle.cl_vnode.proofs.Controller.{AreSends-append, finishes_are_sends}
-use Rattle.cl_vnode.proofs.Performing.{firm_alone, no_decide}
+use Rattle.cl_vnode.proofs.Performing.{no_decide}
 use Rattle.cl_lone.specs.Lone.{committed}
 use Rattle.cl_lone.proofs.Controlling.{IsCalmControl, all_sent}
 use Rattle.cl_lone.proofs.Growing.{IsBelow, one_told}
@@ -118,12 +121,18 @@ commit_sends control txn number =
     no_decide control.nodes (finishes control txn true ++ Say txn number Committed ∷ [])
     (AreSends-append control.nodes (finishes control txn true) (Say txn number Committed ∷ []) (finishes_are_sends control txn true) (tt, tt))
 
-module _ (primary : ℕ → ℕ) (state : ReplicaState) (is : IsBelow state.part) (calm : IsCalmControl state.control) (txn : TxnId) (number : ℕ) (change : Entry → Entry)
+module _ (primary : ℕ → ℕ) (state : ReplicaState) (is : IsBelow state.part) (alone : state.modes.mode ≡ Lone) (calm : IsCalmControl state.control)
+    (txn : TxnId) (number : ℕ) (change : Entry → Entry)
     (keeps : (entry : Entry) → (change entry).txn ≡ entry.txn) (entry : Entry) (found : entry_of state.control txn ≡ Some entry) (same : (change entry).participants ≡ entry.participants)
     (decides : (change entry).phase ≡ Decided number) where
   -- the Decide is in the log
   abbrev appended : ControlState → List TxnId → Stepped
-  appended control firm = record { state = record state { part = after_decide state.part txn; control = control }; step = record nothing_done { firm = firm } }
+  appended control firm =
+      record {
+        state = record state { part = after_decide state.part txn; control = control; decisions = with_decision state.decisions txn };
+        step =
+            record nothing_done { firm = firm };
+      }
 
   -- everybody is told in the same step
   pub decide_told : all_told primary (safe_number state) (all_performed primary (with_control (started state) (with_changed state.control txn change)) (Decide txn ∷ [])) ≡ committed primary state txn number
@@ -134,9 +143,12 @@ module _ (primary : ℕ → ℕ) (state : ReplicaState) (is : IsBelow state.part
       let waiting : ControlState = with_number (with_changed state.control txn change) txn at in
       let ended : ControlState = without_entry state.control txn in
       let list : List Act = finishes state.control txn true ++ Say txn number Committed ∷ [] in
-      one_told primary state is (appended after (firm_at_once state.mode txn)) (records.Decide txn) refl
-      ∙ ap (λ (c : ControlState). all_performed primary (appended (after_safe c at) (firm_at_once state.mode txn)) (safe_acts c at)) (number_told state.control calm txn number at change keeps entry found same decides)
-      ∙ ap (λ (c : ControlState). all_performed primary (appended c (firm_at_once state.mode txn)) (safe_acts waiting at)) (has_ended state.control calm txn number at change keeps entry found same decides)
-      ∙ ap (all_performed primary (appended ended (firm_at_once state.mode txn))) (everybody_told state.control calm txn number at change keeps entry found same decides)
-      ∙ ap (λ (firm : List TxnId). all_performed primary (appended ended firm) list) (firm_alone state.mode txn)
+      one_told primary state is alone (appended after (firm_at_once state.modes.mode txn)) (records.Decide txn) alone refl
+      ∙ ap (λ (c : ControlState). all_performed primary (appended (after_safe c at) (firm_at_once state.modes.mode txn)) (safe_acts c at))
+      (number_told state.control calm txn number at change keeps entry found same decides)
+      ∙ ap (λ (c : ControlState). all_performed primary (appended c (firm_at_once state.modes.mode txn)) (safe_acts waiting at))
+      (has_ended state.control calm txn number at change keeps entry found same decides)
+      ∙ ap (all_performed primary (appended ended (firm_at_once state.modes.mode txn)))
+      (everybody_told state.control calm txn number at change keeps entry found same decides)
+      ∙ ap (λ (firm : List TxnId). all_performed primary (appended ended firm) list) (ap (λ (mode : Mode). firm_at_once mode txn) alone)
       ∙ all_sent primary (appended ended (txn ∷ [])) list (commit_sends state.control txn number)

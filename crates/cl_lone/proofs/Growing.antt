@@ -7,9 +7,10 @@ use Rattle.cl_log.specs.declared.records.LogRec.{LogRec}
 use Rattle.cl_log.specs.LogEntry.{LogEntry}
 use Rattle.cl_control.proofs.Waiters.{filter-none}
 use Rattle.cl_part.specs.State.{State, next_entry, after_record, after_optional}
-use Rattle.cl_vnode.specs.declared.mode.Mode.{Mode}
-use Rattle.cl_vnode.specs.declared.mode.Mode.TheVariants.{Lone}
-use Rattle.cl_vnode.specs.Replica.{ReplicaState, safe_to, safe_number}
+use Rattle.cl_repair.specs.declared.mode.Mode.{Mode}
+use Rattle.cl_repair.specs.declared.mode.Mode.TheVariants.{Lone}
+use Rattle.cl_repair.specs.Modes.{safe_in}
+use Rattle.cl_vnode.specs.Replica.{ReplicaState, safe_number}
 use Rattle.cl_vnode.specs.Step.{Stepped, told, entry_told, all_told}
 
 -- each record has a number below the next one, which is 1 at least
@@ -54,8 +55,8 @@ grown-optional before part (Some content) plain grown = grown-record before part
 
 -- ---- what became safe
 
-lone : (mode : Mode) (last : ℕ) → safe_to mode last ≡ last
-lone Lone last = refl
+safe_alone : (state : ReplicaState) → state.modes.mode ≡ Lone → safe_number state ≡ state.part.next - 1
+safe_alone state alone = ap (λ (mode : Mode). safe_in mode state.modes.acked (state.part.next - 1)) alone
 
 all_plain : (primary : ℕ → ℕ) (done : Stepped) (entries : List LogEntry) → All (λ entry. IsPlain entry.content) entries → fold (entry_told primary) done entries ≡ done
 all_plain primary done [] plain = refl
@@ -63,13 +64,13 @@ all_plain primary done (entry ∷ entries) plain =
     ap (λ (d : Stepped). fold (entry_told primary) d entries) (All-head (λ e. IsPlain e.content) entry entries plain primary done entry.number)
     ∙ all_plain primary done entries (All-tail (λ e. IsPlain e.content) entry entries plain)
 
-module _ (primary : ℕ → ℕ) (state : ReplicaState) (is : IsBelow state.part) (done : Stepped) where
+module _ (primary : ℕ → ℕ) (state : ReplicaState) (is : IsBelow state.part) (alone : state.modes.mode ≡ Lone) (done : Stepped) where
   -- the entry becomes safe in the step
   abbrev is_new : LogEntry → Bool
   is_new entry = nat_lt (safe_number state) entry.number && nat_le entry.number (safe_number done.state)
 
   last : safe_number state ≡ state.part.next - 1
-  last = lone state.mode (state.part.next - 1)
+  last = safe_alone state alone
 
   -- nothing that was in the log before does
   none_newly : filter is_new state.part.log ≡ []
@@ -89,12 +90,13 @@ module _ (primary : ℕ → ℕ) (state : ReplicaState) (is : IsBelow state.part
   none_told grown = newly grown.news grown.log ∙ all_plain primary done (filter is_new grown.news) (All-filter is_new (λ entry. IsPlain entry.content) grown.news grown.plain)
 
   -- the one record that was appended is told
-  pub one_told : (content : LogRec) → done.state.part ≡ after_record state.part content → all_told primary (safe_number state) done ≡ told primary done state.part.next content
+  pub one_told : (content : LogRec) → done.state.modes.mode ≡ Lone → done.state.part ≡ after_record state.part content →
+      all_told primary (safe_number state) done ≡ told primary done state.part.next content
   unfolding after_record
-  one_told content appended =
+  one_told content still appended =
       let entry : LogEntry = next_entry state.part content in
       let next : done.state.part.next ≡ state.part.next + 1 = ap (λ (part : State). part.next) appended in
-      let now : safe_number done.state ≡ done.state.part.next - 1 = lone done.state.mode (done.state.part.next - 1) in
+      let now : safe_number done.state ≡ done.state.part.next - 1 = safe_alone done.state still in
       newly (entry ∷ []) (ap (λ (part : State). part.log) appended)
       ∙ ap (fold (entry_told primary) done)
       (cond-true (is_new entry) (entry ∷ []) []

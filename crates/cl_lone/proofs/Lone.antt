@@ -22,10 +22,14 @@ use Rattle.cl_control.proofs.CallSoundness.{new_is_sound}
 use Rattle.cl_control.proofs.Kept.{phase-found, voting-found, voted-name}
 use Rattle.cl_part.specs.Calls.{after_op, after_prepare, after_decide}
 use Rattle.cl_part.specs.State.{State}
-use Rattle.cl_wire.specs.Message.{Command, Answer, Vote, Ask, Prepare, Finish, Decision}
-use Rattle.cl_vnode.specs.Inputs.{has_decide}
+use Rattle.cl_backup.specs.Decisions.{with_decision}
+use Rattle.cl_repair.specs.declared.mode.Mode.{Mode}
+use Rattle.cl_repair.specs.declared.mode.Mode.TheVariants.{Lone}
+use Rattle.cl_repair.specs.Modes.{ModesState, acked_in, after_acked}
+use Rattle.cl_wire.specs.Message.{Content, Command, Answer, Vote, Ask, Prepare, Finish, Decision, LogAck}
+use Rattle.cl_vnode.specs.Inputs.{Fits, has_decide}
 use Rattle.cl_vnode.specs.Replica.{ReplicaState, safe_number}
-use Rattle.cl_vnode.specs.Step.{Stepped, started, with_message, with_part, with_control, after_finish, all_performed, commanded, answered, voted as voted_in, asked, prepared, finished, home_of, told, all_told}
+use Rattle.cl_vnode.specs.Step.{Stepped, started, with_message, with_part, with_control, with_modes, after_finish, all_performed, commanded, answered, voted as voted_in, asked, prepared, finished, taken, home_of, told, all_told, log_messages, entries_from, shipped}
 use Rattle.cl_vnode.proofs.Controller.{AreSends-append, finishes_are_sends, answer_acts_are_sends}
 use Rattle.cl_vnode.proofs.Performing.{no_decide}
 use Rattle.cl_lone.specs.Calm.{IsCalm}
@@ -44,8 +48,9 @@ part_of state calm = record { below = calm.below; numbered = calm.numbered }
 control_of : (state : ReplicaState) → IsCalm state → IsCalmControl state.control
 control_of state calm = record { sound = calm.sound; none_waits = calm.none_waits; undecided = calm.undecided }
 
-calm_with : (state : ReplicaState) (part : State) (control : ControlState) → IsCalm state → IsBelow part → IsCalmControl control → IsCalm (record state { part = part; control = control })
-calm_with state part control calm below good = record {
+calm_with : (state : ReplicaState) (part : State) (control : ControlState) (decisions : List TxnId) → IsCalm state → IsBelow part → IsCalmControl control →
+    IsCalm (record state { part = part; control = control; decisions = decisions })
+calm_with state part control decisions calm below good = record {
   lone = calm.lone;
   sound = good.sound;
   none_waits = good.none_waits;
@@ -88,7 +93,8 @@ module _ (primary : ℕ → ℕ) (state : ReplicaState) (calm : IsCalm state) wh
   commit_decides txn number [] are may decides =
       let found = phase-found state.control txn Idle may in
       let none : found.0.participants ≡ [] = sym (ap (λ (o : Option Entry). option_map_or (λ (x : Entry). x.participants) o []) found.1) ∙ are in
-      decide_told primary state (part_of state calm) (control_of state calm) txn number (committing number) (λ x. refl) found.0 found.1 refl (ap (commit_phase number) none)
+      decide_told primary state (part_of state calm) calm.lone (control_of state calm) txn number (committing number) (λ x. refl) found.0 found.1 refl
+      (ap (commit_phase number) none)
 
   command_decides : (txn : TxnId) (number : ℕ) (what : ClientCommand) → MayCommand state.control txn what → has_decide (command_acts state.control txn number what) ≡ true →
       told_after (after_command state.control txn number what) (command_acts state.control txn number what) ≡ committed primary state txn number
@@ -107,16 +113,17 @@ module _ (primary : ℕ → ℕ) (state : ReplicaState) (calm : IsCalm state) wh
       (controlled primary state (after_command state.control txn number what) (command_acts state.control txn number what))
       (λ (done : Stepped). told_after (after_command state.control txn number what) (command_acts state.control txn number what) ≡ done)
       (command_decides txn number what may)
-      (controlled_told primary state (after_command state.control txn number what) (command_acts state.control txn number what) (part_of state calm))
+      (controlled_told primary state (after_command state.control txn number what) (command_acts state.control txn number what) (part_of state calm) calm.lone)
 
   calm_committed : (txn : TxnId) (number : ℕ) → IsCalm (committed primary state txn number).state
   unfolding after_decide
   calm_committed txn number =
-      calm_with state (after_decide state.part txn) (without_entry state.control txn) calm (below-record state.part (records.Decide txn) (part_of state calm))
+      calm_with state (after_decide state.part txn) (without_entry state.control txn) (with_decision state.decisions txn) calm
+      (below-record state.part (records.Decide txn) (part_of state calm))
       (calm-without state.control (control_of state calm) txn)
 
   calm_controlled : (control : ControlState) (list : List Act) → IsCalmControl control → IsCalm (controlled primary state control list).state
-  calm_controlled control list good = calm_with state state.part control calm (part_of state calm) good
+  calm_controlled control list good = calm_with state state.part control state.decisions calm (part_of state calm) good
 
   -- ---- a vote
 
@@ -136,7 +143,8 @@ module _ (primary : ℕ → ℕ) (state : ReplicaState) (calm : IsCalm state) wh
       let every : is_unanimous (with_vote v found.0) ≡ true = sym (ap (λ (o : Option Entry). option_map_or (λ (x : Entry). is_unanimous (with_vote v x)) o false) found.1) ∙ last in
       let is : voted v found.0 ≡ with_phase (decided_phase found.0.phase) (with_vote v found.0) = cond-true _ _ _ every in
       let command : command_of state.control txn ≡ command_in found.0.phase = ap (λ (o : Option Entry). option_map_or command_in (option_map (λ (x : Entry). x.phase) o) 0) found.1 in
-      decide_told primary state (part_of state calm) (control_of state calm) txn (command_of state.control txn) (voted v) (voted-name v) found.0 found.1
+      decide_told primary state (part_of state calm) calm.lone (control_of state calm) txn (command_of state.control txn) (voted v)
+      (voted-name v) found.0 found.1
       (ap (λ (x : Entry). x.participants) is) (ap (λ (x : Entry). x.phase) is ∙ decided_from found.0.phase preparing ∙ ap Decided (sym command))
 
   vote_told : (v : ℕ) (txn : TxnId) →
@@ -151,62 +159,85 @@ module _ (primary : ℕ → ℕ) (state : ReplicaState) (calm : IsCalm state) wh
       ∙ ap (told_after (with_changed state.control txn (voted v))) (cond-true _ _ _ last)
       ∙ vote_decides v txn parts.0 parts.1)
       (λ more. ap (told_after (after_vote state.control v txn)) (cond-false _ _ _ more)
-      ∙ controlled_told primary state (after_vote state.control v txn) [] (part_of state calm) refl)
+      ∙ controlled_told primary state (after_vote state.control v txn) [] (part_of state calm) calm.lone refl)
 
   -- ---- the participant
 
   asked_told : (from v : ℕ) (txn : TxnId) (number : ℕ) (place : Place) (op : Op) (mark : Bool) →
       all_told primary (safe_number state) (asked (started state) from v txn number place op mark) ≡ asked (started state) from v txn number place op mark
   unfolding asked
-  asked_told from v txn number place op true = none_told primary state (part_of state calm) (asked (started state) from v txn number place op true) (grown-none state.part (part_of state calm))
+  asked_told from v txn number place op true =
+      none_told primary state (part_of state calm) calm.lone (asked (started state) from v txn number place op true)
+      (grown-none state.part (part_of state calm))
   asked_told from v txn number place op false =
-      none_told primary state (part_of state calm) (asked (started state) from v txn number place op false) (grown-op state.part txn place op (part_of state calm))
+      none_told primary state (part_of state calm) calm.lone (asked (started state) from v txn number place op false)
+      (grown-op state.part txn place op (part_of state calm))
 
   asked_calm : (from v : ℕ) (txn : TxnId) (number : ℕ) (place : Place) (op : Op) (mark : Bool) → IsCalm (asked (started state) from v txn number place op mark).state
   unfolding asked
   asked_calm from v txn number place op true = calm
   asked_calm from v txn number place op false =
       let grown : HasGrown state.part (after_op state.part txn place op) = grown-op state.part txn place op (part_of state calm) in
-      calm_with state (after_op state.part txn place op) state.control calm grown.below (control_of state calm)
+      calm_with state (after_op state.part txn place op) state.control state.decisions calm grown.below (control_of state calm)
 
   -- the vote is sent in the step that prepares
   prepared_told : (txn : TxnId) →
       all_told primary (safe_number state) (prepared (started state) txn) ≡ with_message (prepared (started state) txn) (primary (home_of state.control txn)) (Vote state.v txn)
   unfolding prepared after_prepare told
-  prepared_told txn = one_told primary state (part_of state calm) (prepared (started state) txn) (records.Prepared txn) refl
+  prepared_told txn = one_told primary state (part_of state calm) calm.lone (prepared (started state) txn) (records.Prepared txn) calm.lone refl
 
   prepared_calm : (txn : TxnId) → IsCalm (prepared (started state) txn).state
   unfolding prepared after_prepare
-  prepared_calm txn = calm_with state (after_prepare state.part txn) state.control calm (below-record state.part (records.Prepared txn) (part_of state calm)) (control_of state calm)
+  prepared_calm txn = calm_with state (after_prepare state.part txn) state.control state.decisions calm
+      (below-record state.part (records.Prepared txn) (part_of state calm)) (control_of state calm)
 
   finished_told : (txn : TxnId) (commit : Bool) → all_told primary (safe_number state) (finished (started state) txn commit) ≡ finished (started state) txn commit
   unfolding finished
   finished_told txn commit =
       cond_both (is_open state.part.log txn) (with_part (started state) (after_finish state.part txn commit)) (started state) (λ (done : Stepped). all_told primary (safe_number state) done ≡ done)
-      (λ _. none_told primary state (part_of state calm) (with_part (started state) (after_finish state.part txn commit)) (grown-finish state.part txn commit (part_of state calm)))
-      (λ _. none_told primary state (part_of state calm) (started state) (grown-none state.part (part_of state calm)))
+      (λ _. none_told primary state (part_of state calm) calm.lone (with_part (started state) (after_finish state.part txn commit))
+      (grown-finish state.part txn commit (part_of state calm)))
+      (λ _. none_told primary state (part_of state calm) calm.lone (started state) (grown-none state.part (part_of state calm)))
 
   finished_calm : (txn : TxnId) (commit : Bool) → IsCalm (finished (started state) txn commit).state
   unfolding finished
   finished_calm txn commit =
       let grown : HasGrown state.part (after_finish state.part txn commit) = grown-finish state.part txn commit (part_of state calm) in
       cond_both (is_open state.part.log txn) (with_part (started state) (after_finish state.part txn commit)) (started state) (λ (done : Stepped). IsCalm done.state)
-      (λ _. calm_with state (after_finish state.part txn commit) state.control calm grown.below (control_of state calm)) (λ _. calm)
+      (λ _. calm_with state (after_finish state.part txn commit) state.control state.decisions calm grown.below (control_of state calm)) (λ _. calm)
+
+  -- without a standby, an acknowledgement changes nothing
+  acked_told : (number : ℕ) → all_told primary (safe_number state) (with_modes (started state) (after_acked state.modes number)) ≡ started state
+  acked_told number =
+      let same : after_acked state.modes number ≡ state.modes =
+      ap (λ (mode : Mode). record state.modes { acked = acked_in mode state.modes.acked number }) calm.lone in
+      ap (λ (modes : ModesState). all_told primary (safe_number state) (with_modes (started state) modes)) same
+      ∙ none_told primary state (part_of state calm) calm.lone (started state) (grown-none state.part (part_of state calm))
+
+-- without a standby, nothing is shipped
+unshipped : (next : ℕ) (done : Stepped) → done.state.modes.mode ≡ Lone → shipped next done ≡ done
+unshipped next done alone =
+    ap (λ (mode : Mode). record done
+    { step = record done.step { sends = log_messages mode done.state.v (entries_from next done.state.part.log) ++ done.step.sends } }) alone
 
 -- ---- any message
 
-pub calm_steps_are_lone : CalmStepsAreLone
+-- what a message makes before it is shipped
+told_is_lone : (primary : ℕ → ℕ) (nodes : ℕ) (state : ReplicaState) (from : ℕ) (content : Content) (mark : Bool) → IsCalm state → Fits nodes state content →
+    all_told primary (safe_number state) (taken primary (started state) from content mark) ≡ lone_step primary state from content mark
 unfolding commanded answered voted_in lone_step
-calm_steps_are_lone primary nodes state from (Command v txn number what) mark calm fits = command_told primary state calm txn number what fits.comes
-calm_steps_are_lone primary nodes state from (Answer v txn number answer) mark calm fits =
-    controlled_told primary state (after_answer state.control v txn number answer) (answer_acts state.control v txn number answer) (part_of state calm)
+told_is_lone primary nodes state from (Command v txn number what) mark calm fits = command_told primary state calm txn number what fits.comes
+told_is_lone primary nodes state from (Answer v txn number answer) mark calm fits =
+    controlled_told primary state (after_answer state.control v txn number answer) (answer_acts state.control v txn number answer)
+    (part_of state calm) calm.lone
     (no_decide state.control.nodes (answer_acts state.control v txn number answer) (answer_acts_are_sends state.control v txn number answer))
-calm_steps_are_lone primary nodes state from (Vote v txn) mark calm fits = vote_told primary state calm v txn
-calm_steps_are_lone primary nodes state from (Ask v txn number table key op) mark calm fits = asked_told primary state calm from v txn number (table, key) op mark
-calm_steps_are_lone primary nodes state from (Prepare v txn) mark calm fits = prepared_told primary state calm txn
-calm_steps_are_lone primary nodes state from (Finish v txn commit) mark calm fits = finished_told primary state calm txn commit
-calm_steps_are_lone primary nodes state from (Decision v txn commit) mark calm fits = finished_told primary state calm txn commit
-calm_steps_are_lone primary nodes state from content mark calm fits = absurd fits.comes
+told_is_lone primary nodes state from (Vote v txn) mark calm fits = vote_told primary state calm v txn
+told_is_lone primary nodes state from (Ask v txn number table key op) mark calm fits = asked_told primary state calm from v txn number (table, key) op mark
+told_is_lone primary nodes state from (Prepare v txn) mark calm fits = prepared_told primary state calm txn
+told_is_lone primary nodes state from (Finish v txn commit) mark calm fits = finished_told primary state calm txn commit
+told_is_lone primary nodes state from (Decision v txn commit) mark calm fits = finished_told primary state calm txn commit
+told_is_lone primary nodes state from (LogAck v number) mark calm fits = acked_told primary state calm number
+told_is_lone primary nodes state from content mark calm fits = absurd fits.comes
 
 pub steps_stay_calm : StepsStayCalm
 unfolding lone_step
@@ -228,4 +259,10 @@ steps_stay_calm primary nodes state from (Ask v txn number table key op) mark ca
 steps_stay_calm primary nodes state from (Prepare v txn) mark calm fits = prepared_calm primary state calm txn
 steps_stay_calm primary nodes state from (Finish v txn commit) mark calm fits = finished_calm primary state calm txn commit
 steps_stay_calm primary nodes state from (Decision v txn commit) mark calm fits = finished_calm primary state calm txn commit
+steps_stay_calm primary nodes state from (LogAck v number) mark calm fits = calm
 steps_stay_calm primary nodes state from content mark calm fits = absurd fits.comes
+
+pub calm_steps_are_lone : CalmStepsAreLone
+calm_steps_are_lone primary nodes state from content mark calm fits =
+    ap (shipped state.part.next) (told_is_lone primary nodes state from content mark calm fits)
+    ∙ unshipped state.part.next (lone_step primary state from content mark) (steps_stay_calm primary nodes state from content mark calm fits).lone

@@ -1,13 +1,13 @@
 -- A primary without a standby, between two steps.
 use Rattle.std.specs.Prelude.{◌≡◌, ◌<◌, ◌≤◌, false, [], All}
 use Rattle.cl_control.specs.Sound.{IsSoundControl, has_decide}
-use Rattle.cl_vnode.specs.declared.mode.Mode.TheVariants.{Lone}
+use Rattle.cl_repair.specs.declared.mode.Mode.TheVariants.{Lone}
 use Rattle.cl_vnode.specs.Replica.{ReplicaState}
 
 -- without a standby all of the log is safe, so between two steps nothing waits to be safe
 pub record IsCalm (state : ReplicaState) : Type 0 where
   -- there is no standby
-  pub lone : state.mode ≡ Lone
+  pub lone : state.modes.mode ≡ Lone
   -- what holds of each controller
   pub sound : IsSoundControl state.control
   -- no Decide waits to be safe

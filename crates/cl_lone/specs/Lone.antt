@@ -3,6 +3,7 @@ use Rattle.std.specs.Prelude.{ℕ, Bool, true, ◌&&◌, if◌then◌else◌, Li
 use Rattle.std.specs.Option.{option_map_or}
 use Rattle.cl_types.specs.declared.answers.Outcome.TheVariants.{Committed}
 use Rattle.cl_types.specs.declared.operations.TxnId.{TxnId}
+use Rattle.cl_backup.specs.Decisions.{with_decision}
 use Rattle.cl_control.specs.declared.acts.Act.{Act}
 use Rattle.cl_control.specs.declared.acts.Act.TheVariants as acts
 use Rattle.cl_control.specs.declared.entry.Phase.{Phase}
@@ -38,7 +39,7 @@ controlled primary state control list =
 -- COMMIT, the command of this number, is decided: the Decide is in the log, the transaction is firm, and each participant and the session are told
 abbrev pub committed : (ℕ → ℕ) → ReplicaState → TxnId → ℕ → Stepped
 committed primary state txn number = record {
-  state = record state { part = after_decide state.part txn; control = without_entry state.control txn };
+  state = record state { part = after_decide state.part txn; control = without_entry state.control txn; decisions = with_decision state.decisions txn };
   step = record nothing_done {
     sends = messages_of primary (finishes state.control txn true ++ acts.Say txn number Committed ∷ []);
     firm = txn ∷ [];

@@ -9,27 +9,38 @@ use Rattle.cl_endpoint.specs.declared.limits.TheConstants.{ACTORS}
 use Rattle.cl_node.specs.Addressing.{addressed}
 use Rattle.cl_node.specs.Laws.{NodesSendToActors}
 use Rattle.cl_node.specs.Node.{NodeState, replica_at, replica_for, slot_step, delivered_to, delivered_for}
-use Rattle.cl_vnode.specs.Inputs.{Fits}
-use Rattle.cl_vnode.specs.Laws.{IsReceiver}
+use Rattle.cl_repair.specs.declared.mode.Mode.{Mode}
+use Rattle.cl_repair.specs.declared.mode.Mode.TheVariants.{Lone, Pair}
+use Rattle.cl_vnode.specs.Inputs.{Fits, IsStandbyBelow}
+use Rattle.cl_vnode.specs.Laws.{IsReceiver, IsStandbyIn}
 use Rattle.cl_vnode.specs.Replica.{ReplicaState}
 use Rattle.cl_vnode.specs.Step as replica
 use Rattle.cl_vnode.proofs.Receivers.{steps_send_to_receivers}
 use Rattle.cl_wire.specs.Message.{Content}
 
+-- a standby is an actor
+standby_is_actor : (mode : Mode) (to : ℕ) → IsStandbyBelow mode → IsStandbyIn mode to → to < ACTORS
+standby_is_actor Lone to below is = absurd is
+standby_is_actor (Pair standby) to below is = omega (arith, below, is)
+
 -- to whom a replica sends is an actor
-receiver_is_actor : (noted : Noted) (from to : ℕ) → IsLawfullyNoted noted → from < ACTORS → IsReceiver noted.nodes (replica.primary_in noted.nodes noted.entries) from to → to < ACTORS
-receiver_is_actor noted from to is sender (inl same) = subst (λ n. n < ACTORS) (sym same) sender
-receiver_is_actor noted from to is sender (inr (inl same)) = omega (arith, same)
-receiver_is_actor noted from to is sender (inr (inr (v, within, same))) = subst (λ n. n < ACTORS) (sym same) (primary_is_actor noted v is within)
+receiver_is_actor : (noted : Noted) (mode : Mode) (from to : ℕ) → IsLawfullyNoted noted → from < ACTORS → IsStandbyBelow mode →
+    IsReceiver noted.nodes (replica.primary_in noted.nodes noted.entries) mode from to → to < ACTORS
+receiver_is_actor noted mode from to is sender below (inl same) = subst (λ n. n < ACTORS) (sym same) sender
+receiver_is_actor noted mode from to is sender below (inr (inl same)) = omega (arith, same)
+receiver_is_actor noted mode from to is sender below (inr (inr (inl (v, within, same)))) =
+    subst (λ n. n < ACTORS) (sym same) (primary_is_actor noted v is within)
+receiver_is_actor noted mode from to is sender below (inr (inr (inr standby))) = standby_is_actor mode to below standby
 
 slot_sends : (noted : Noted) (state : NodeState) (from : ℕ) (content : Content) (mark : Bool) (v : ℕ) (slot : Option ReplicaState) (there : ReplicaState) →
     IsLawfullyNoted noted → from < ACTORS → slot ≡ Some there → Fits noted.nodes there content → SendsToActors (delivered_to state v (slot_step noted slot from content mark))
 slot_sends noted state from content mark v None there is sender same fits = let none : ◌≡◌ {A = Option ReplicaState} None (Some there) = same in absurd cc
 slot_sends noted state from content mark v (Some here) there is sender same fits =
     let both : here ≡ there = cc in
-    All-weaker (IsReceiver noted.nodes (replica.primary_in noted.nodes noted.entries) from) (λ to. to < ACTORS)
-    (λ to receiver. receiver_is_actor noted from to is sender receiver) _
-    (steps_send_to_receivers noted.nodes (replica.primary_in noted.nodes noted.entries) here from content mark is.size.counted (subst (λ one. Fits noted.nodes one content) (sym both) fits))
+    let fits_here : Fits noted.nodes here content = subst (λ one. Fits noted.nodes one content) (sym both) fits in
+    All-weaker (IsReceiver noted.nodes (replica.primary_in noted.nodes noted.entries) here.modes.mode from) (λ to. to < ACTORS)
+    (λ to receiver. receiver_is_actor noted here.modes.mode from to is sender fits_here.standby receiver) _
+    (steps_send_to_receivers noted.nodes (replica.primary_in noted.nodes noted.entries) here from content mark is.size.counted fits_here)
 
 for_sends : (noted : Noted) (state : NodeState) (from : ℕ) (content : Content) (mark : Bool) (to : Option ℕ) (there : ReplicaState) →
     IsLawfullyNoted noted → from < ACTORS → replica_for state to ≡ Some there → Fits noted.nodes there content → SendsToActors (delivered_for noted state from content mark to)

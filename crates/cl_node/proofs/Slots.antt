@@ -15,6 +15,7 @@ use Rattle.cl_steps.specs.declared.steps.Steps.{Steps}
 use Rattle.cl_steps.specs.Steps.{step_of}
 use Rattle.cl_types.specs.declared.answers.Refused.{Refused}
 use Rattle.cl_types.specs.declared.answers.Refused.TheVariants.{NoMemory, Spent}
+use Rattle.cl_repair.specs.Modes.{ModesState}
 use Rattle.cl_vnode.specs.declared.vnode.Vnode.{Vnode}
 use Rattle.cl_vnode.specs.Inputs as inputs
 use Rattle.cl_vnode.specs.Inputs.{Fits, is_spent}
@@ -77,7 +78,7 @@ under_way : (vnode : Option Vnode) (replica : Option ReplicaState) → IsReplica
 under_way None None is = refl
 under_way None (Some replica) is = absurd is
 under_way (Some vnode) None is = absurd is
-under_way (Some vnode) (Some replica) is = ap is_lasting is.mode
+under_way (Some vnode) (Some replica) is = ap (λ (modes : ModesState). is_lasting modes.mode) is.modes
 
 -- at one of them
 pub any_under_way : (vnodes : List (Option Vnode)) (replicas : List (Option ReplicaState)) → AllZip IsReplicaAt vnodes replicas →

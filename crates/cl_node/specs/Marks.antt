@@ -1,7 +1,7 @@
 -- With the mark of its step a node sends to no more actors than without.
-use Rattle.std.specs.Prelude.{ℕ, zero, suc, nat_eq, ◌≤◌, true, false, List, [], ◌∷◌, Option, Some, None, slice_index_or}
-use Rattle.std.specs.List.{AllZip, count_by}
-use Rattle.std.proofs.Common.{le_refl, sym, subst}
+use Rattle.std.specs.Prelude.{ℕ, zero, suc, true, false, List, [], ◌∷◌, Option, Some, None, slice_index_or}
+use Rattle.std.specs.List.{AllZip}
+use Rattle.std.proofs.Common.{le_refl}
 use Rattle.cl_actor.specs.Core.{Noted, AreFewer, receivers}
 use Rattle.cl_node.specs.Addressing.{addressed}
 use Rattle.cl_node.specs.declared.node_core.NodeCore.{NodeCore}
@@ -12,15 +12,13 @@ use Rattle.cl_vnode.specs.declared.vnode.Vnode.{Vnode}
 use Rattle.cl_vnode.specs.Laws as of_replica
 use Rattle.cl_vnode.specs.Replica.{ReplicaState, IsReplicaStateOf}
 use Rattle.cl_vnode.specs.Step.{primary_in, stepped}
-use Rattle.cl_vnode.proofs.Receivers.{marks_are_alike as replica_marks}
+use Rattle.cl_vnode.proofs.Marks.{marks_are_alike as replica_marks}
 use Rattle.cl_wire.specs.Message.{Content}
 
 -- so does a replica
 replica_sends_fewer : (vnode : Vnode) (replica : ReplicaState) → IsReplicaStateOf vnode replica → (primary : ℕ → ℕ) (from : ℕ) (content : Content) →
     AreFewer (of_replica.receivers (stepped primary replica from content true).step) (of_replica.receivers (stepped primary replica from content false).step)
-replica_sends_fewer vnode replica is primary from content to =
-    subst (λ (all : List ℕ). count_by (nat_eq to) all ≤ count_by (nat_eq to) (of_replica.receivers (stepped primary replica from content false).step))
-    (sym (replica_marks vnode replica is primary from content true)) (le_refl _)
+replica_sends_fewer vnode replica is primary from content = replica_marks vnode replica is primary from content true
 
 -- by the replica that the message is for
 by_replica : (noted : Noted) (state : NodeState) (from : ℕ) (content : Content) (v : ℕ) (vnode : Option Vnode) (replica : Option ReplicaState) →

@@ -13,4 +13,4 @@ IsReplicaAt (Some vnode) (Some state) = IsReplicaStateOf vnode state
 -- something outlasts a step at a replica, where there is one
 abbrev pub is_under_way : Option Vnode → Bool
 is_under_way None = false
-is_under_way (Some vnode) = is_lasting vnode.mode
+is_under_way (Some vnode) = is_lasting vnode.modes.mode

@@ -31,7 +31,7 @@ fn first_replicas(alloc: Global, me: u32, nodes: u32) -> [Option<Vnode>; VIRTUAL
 {
     let mut replicas = [None, None, None, None, None, None, None, None];
     if me < nodes {
-        replicas[me as usize] = Some(Vnode::new(alloc, me, nodes));
+        replicas[me as usize] = Some(Vnode::new(alloc, me, nodes, None));
     }
     replicas
 }

@@ -7,7 +7,3 @@ mod cluster;
 mod endpoint;
 #[cfg(test)]
 mod front;
-#[cfg(test)]
-mod primaries;
-#[cfg(test)]
-mod vnode;

@@ -15,7 +15,8 @@ use Rattle.cl_vnode.specs.Sending.{HasStepped, is_no_memory}
 use Rattle.cl_vnode.specs.Step.{Stepped, asked}
 
 module _ (old new : Vnode) (steps after : Steps) (before : Stepped) (from v : ℕ) (txn : TxnId) (number : ℕ) (place : Place) (op : Op)
-    (has : HasStepped old steps before) (same_v : new.v ≡ old.v) (same_control : new.control ≡ old.control) (same_mode : new.mode ≡ old.mode) where
+    (has : HasStepped old steps before) (same_v : new.v ≡ old.v) (same_control : new.control ≡ old.control) (same_modes : new.modes ≡ old.modes)
+    (same_decisions : new.decisions ≡ old.decisions) where
   -- the answer, with the mark
   abbrev answered_with : Step → OpAnswer → Step
   answered_with step answer = record step { sends = step.sends ++ sent from (Answer v txn number answer) ∷ []; short = is_no_memory answer }
@@ -26,7 +27,14 @@ module _ (old new : Vnode) (steps after : Steps) (before : Stepped) (from v : �
   unfolding asked
   given answer found is_answer now gave =
       subst (λ b. HasStepped new after (asked before from v txn number place op b)) (sym found) (record {
-        state = record { v = same_v ∙ has.state.v; part = now; control = same_control ∙ has.state.control; mode = same_mode ∙ has.state.mode };
+        state = record {
+          v = same_v ∙ has.state.v;
+          part = now;
+          control = same_control ∙ has.state.control;
+          modes = same_modes ∙ has.state.modes;
+          decisions =
+              same_decisions ∙ has.state.decisions;
+        };
         step = gave ∙ ap (λ (s : Step). answered_with s answer) has.step
             ∙ ap (λ b. record before.step { sends = before.step.sends ++ sent from (Answer v txn number answer) ∷ []; short = b }) found
             ∙ ap (λ (a : OpAnswer). record before.step { sends = before.step.sends ++ sent from (Answer v txn number a) ∷ []; short = false }) is_answer;
@@ -39,7 +47,13 @@ module _ (old new : Vnode) (steps after : Steps) (before : Stepped) (from v : �
   by_answer (Done reply) is_answer now stays gave = given (Done reply) refl (is_answer (λ e. cc)) (now (λ e. cc)) gave
   by_answer (Refused holder) is_answer now stays gave = given (Refused holder) refl (is_answer (λ e. cc)) (now (λ e. cc)) gave
   by_answer NoMemory is_answer now stays gave = record {
-    state = record { v = same_v ∙ has.state.v; part = stays refl; control = same_control ∙ has.state.control; mode = same_mode ∙ has.state.mode };
+    state = record {
+      v = same_v ∙ has.state.v;
+      part = stays refl;
+      control = same_control ∙ has.state.control;
+      modes = same_modes ∙ has.state.modes;
+      decisions = same_decisions ∙ has.state.decisions;
+    };
     step = gave ∙ ap (λ (s : Step). answered_with s NoMemory) has.step;
   }
 

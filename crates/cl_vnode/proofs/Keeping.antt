@@ -12,8 +12,8 @@ use Rattle.cl_control.specs.declared.acts.Act.TheVariants.{Decide}
 use Rattle.cl_control.specs.Calls.{command_acts, after_command, answer_acts, after_answer, vote_acts, after_vote, safe_acts, after_safe}
 use Rattle.cl_control.specs.State.{ControlState}
 use Rattle.cl_part.specs.State.{State}
-use Rattle.cl_wire.specs.Message.{Content, Command, Answer, Vote, Ask, Prepare, Finish, Decision}
-use Rattle.cl_vnode.specs.Laws.{IsSameReplica, StepsKeepReplica}
+use Rattle.cl_wire.specs.Message.{Content, Command, Answer, Vote, Ask, Prepare, Finish, Decision, Log, LogAck}
+use Rattle.cl_vnode.specs.Laws.{IsSameReplica, StepsKeepReplica, StandbyStepsKeepReplica}
 use Rattle.cl_vnode.specs.Replica.{ReplicaState, safe_number}
 use Rattle.cl_vnode.specs.Step.{Stepped, started, with_part, with_control, after_finish, performed, decided, all_performed, commanded, answered, voted, asked, prepared, finished, taken, told, entry_told, entries_between, all_told}
 use Rattle.cl_vnode.proofs.Controller.{nodes-after_command, nodes-after_answer, nodes-after_vote, nodes-after_decided_at, nodes-after_safe}
@@ -21,7 +21,7 @@ use Rattle.cl_vnode.proofs.Controller.{nodes-after_command, nodes-after_answer, 
 same : (state : ReplicaState) → IsSameReplica state state
 same state = record { v = refl; nodes = refl; mode = refl }
 
-pub same_on : (a b c : ReplicaState) → IsSameReplica a b → IsSameReplica b c → IsSameReplica a c
+same_on : (a b c : ReplicaState) → IsSameReplica a b → IsSameReplica b c → IsSameReplica a c
 same_on a b c ab bc = record { v = bc.v ∙ ab.v; nodes = bc.nodes ∙ ab.nodes; mode = bc.mode ∙ ab.mode }
 
 performed_same : (primary : ℕ → ℕ) (done : Stepped) (act : Act) → IsSameReplica done.state (performed primary done act).state
@@ -81,9 +81,21 @@ taken_same primary done from (Ask v txn number table key op) short = asked_same 
 taken_same primary done from (Prepare v txn) short = record { v = refl; nodes = refl; mode = refl }
 taken_same primary done from (Finish v txn commit) short = either_same (is_open done.state.part.log txn) done (after_finish done.state.part txn commit)
 taken_same primary done from (Decision v txn commit) short = either_same (is_open done.state.part.log txn) done (after_finish done.state.part txn commit)
+taken_same primary done from (LogAck v number) short = record { v = refl; nodes = refl; mode = refl }
 taken_same primary done from content short = same done.state
 
-pub steps_keep_replica : StepsKeepReplica
-steps_keep_replica primary state from content short =
+-- before it is shipped, what a step makes
+pub made_same : (primary : ℕ → ℕ) (state : ReplicaState) (from : ℕ) (content : Content) (short : Bool) →
+    IsSameReplica state (all_told primary (safe_number state) (taken primary (started state) from content short)).state
+made_same primary state from content short =
     same_on state (taken primary (started state) from content short).state _ (taken_same primary (started state) from content short)
     (all_told_same primary (safe_number state) (taken primary (started state) from content short))
+
+pub steps_keep_replica : StepsKeepReplica
+steps_keep_replica primary state from content short = made_same primary state from content short
+
+-- ---- a standby
+
+pub standby_steps_keep_replica : StandbyStepsKeepReplica
+standby_steps_keep_replica state from (Log v number content) = record { v = refl; nodes = refl; mode = refl }
+standby_steps_keep_replica state from content = same state

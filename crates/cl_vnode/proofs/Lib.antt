@@ -1,7 +1,10 @@
 pub mod Asking
 pub mod Controller
+pub mod Free
 pub mod Keeping
+pub mod Marks
 pub mod Performing
 pub mod Receivers
 pub mod States
+pub mod Takes
 pub mod Telling

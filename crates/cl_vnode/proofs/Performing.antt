@@ -11,20 +11,22 @@ use Rattle.cl_control.specs.declared.acts.Act.TheVariants.{Ask, Prepare, Finish,
 use Rattle.cl_control.specs.Calls.{counts_number, safe_acts, after_safe}
 use Rattle.cl_control.specs.State.{ControlState}
 use Rattle.cl_part.specs.declared.part.Part.{Part}
+use Rattle.cl_repair.specs.declared.mode.Mode.{Mode}
+use Rattle.cl_repair.specs.Modes.{ModesState}
+use Rattle.cl_log.specs.Log.{entries}
+use Rattle.cl_log.specs.LogEntry.{LogEntry}
 use Rattle.cl_part.specs.State.{IsStateOf}
 use Rattle.cl_steps.specs.declared.steps.Outgoing.{Outgoing}
 use Rattle.cl_steps.specs.declared.steps.Steps.{Steps}
 use Rattle.cl_steps.specs.Steps.{Step, step_of}
 use Rattle.cl_vnode.specs.declared.vnode.Vnode.{Vnode}
-use Rattle.cl_vnode.specs.declared.mode.Mode.{Mode}
-use Rattle.cl_vnode.specs.declared.mode.Mode.TheVariants.{Lone}
 use Rattle.cl_wire.specs.Message.{Vote}
 use Rattle.cl_vnode.specs.declared.news.News.{News}
 use Rattle.cl_vnode.specs.declared.news.News.TheVariants as news
 use Rattle.cl_vnode.specs.Inputs.{is_decide, has_decide}
 use Rattle.cl_vnode.specs.News.{news_of, news_in}
 use Rattle.cl_vnode.specs.Sending.{HasStepped, IsSend, AreSends, AreActs, decide_in, message_of_act, told_at}
-use Rattle.cl_vnode.specs.Step.{Stepped, with_message, with_control, firm_at_once, performed, all_performed, home_of, told}
+use Rattle.cl_vnode.specs.Step.{Stepped, with_message, with_control, performed, all_performed, home_of, told, log_messages, entries_from, shipped}
 
 -- these messages more are sent
 abbrev pub with_messages : Stepped → List Outgoing → Stepped
@@ -56,30 +58,29 @@ has_sent vnode old new primary nodes done acts sends has gave =
 
 -- the controller alone has changed, by this call
 pub controlled : (old new : Vnode) (steps : Steps) (before : Stepped) (call : ControlState → ControlState) → HasStepped old steps before →
-    new.v ≡ old.v → new.part ≡ old.part → new.mode ≡ old.mode → new.control ≡ call old.control → HasStepped new steps (with_control before (call before.state.control))
-controlled old new steps before call has same_v same_part same_mode called = record {
+    new.v ≡ old.v → new.part ≡ old.part → new.modes ≡ old.modes → new.decisions ≡ old.decisions → new.control ≡ call old.control →
+    HasStepped new steps (with_control before (call before.state.control))
+controlled old new steps before call has same_v same_part same_modes same_decisions called = record {
   state = record {
     v = same_v ∙ has.state.v;
     part = subst (λ (p : Part). IsStateOf p before.state.part) (sym same_part) has.state.part;
     control = called ∙ ap call has.state.control;
-    mode = same_mode ∙ has.state.mode;
+    modes = same_modes ∙ has.state.modes;
+    decisions = same_decisions ∙ has.state.decisions;
   };
   step = has.step;
 }
 
 -- and the acts that it gave, which are messages, were sent
 pub controlled_sent : (old new : Vnode) (steps after : Steps) (primary : ℕ → ℕ) (nodes : ℕ) (before : Stepped) (given : List Act) (call : ControlState → ControlState) (acts : ControlState → List Act) →
-    HasStepped old steps before → new.v ≡ old.v → new.part ≡ old.part → new.mode ≡ old.mode → new.control ≡ call old.control → given ≡ acts old.control → AreSends nodes given →
+    HasStepped old steps before → new.v ≡ old.v → new.part ≡ old.part → new.modes ≡ old.modes → new.decisions ≡ old.decisions →
+    new.control ≡ call old.control → given ≡ acts old.control → AreSends nodes given →
     step_of after ≡ record (step_of steps) { sends = (step_of steps).sends ++ map (message_of_act primary) given } →
     HasStepped new after (all_performed primary (with_control before (call before.state.control)) (acts before.state.control))
-controlled_sent old new steps after primary nodes before given call acts has same_v same_part same_mode called gives sends gave =
+controlled_sent old new steps after primary nodes before given call acts has same_v same_part same_modes same_decisions called gives sends gave =
     subst (λ (done : List Act). HasStepped new after (all_performed primary (with_control before (call before.state.control)) done)) (gives ∙ ap acts has.state.control)
-    (has_sent new steps after primary nodes (with_control before (call before.state.control)) given sends (controlled old new steps before call has same_v same_part same_mode called) gave)
-
--- ---- a Decide
-
-pub firm_alone : (mode : Mode) (txn : TxnId) → firm_at_once mode txn ≡ txn ∷ []
-firm_alone Lone txn = refl
+    (has_sent new steps after primary nodes (with_control before (call before.state.control)) given sends
+    (controlled old new steps before call has same_v same_part same_modes same_decisions called) gave)
 
 -- ---- a lone Decide among the acts
 
@@ -125,3 +126,16 @@ told_by_news primary done number content = refl
 pub told_at_by_news : (primary : ℕ → ℕ) (done : Stepped) (number : ℕ) (found : Option LogRec) → told_at primary done number found ≡ told_news primary done number (news_in found)
 told_at_by_news primary done number None = refl
 told_at_by_news primary done number (Some content) = told_by_news primary done number content
+
+-- ---- what is shipped
+
+pub shipped_alike : (vnode : Vnode) (steps : Steps) (done : Stepped) (next : ℕ) (mode : Mode) → HasStepped vnode steps done → mode ≡ vnode.modes.mode →
+    record (step_of steps) { sends = log_messages mode vnode.v (entries_from next (entries vnode.part.log)) ++ (step_of steps).sends } ≡
+    (shipped next done).step
+shipped_alike vnode steps done next mode has is =
+    ap (λ (s : Step). record s { sends = log_messages mode vnode.v (entries_from next (entries vnode.part.log)) ++ s.sends }) has.step
+    ∙ ap (λ (m : Mode). record done.step { sends = log_messages m vnode.v (entries_from next (entries vnode.part.log)) ++ done.step.sends })
+    (is ∙ ap (λ (modes : ModesState). modes.mode) has.state.modes)
+    ∙ ap (λ v. record done.step { sends = log_messages done.state.modes.mode v (entries_from next (entries vnode.part.log)) ++ done.step.sends }) has.state.v
+    ∙ ap (λ (log : List LogEntry). record done.step
+    { sends = log_messages done.state.modes.mode done.state.v (entries_from next log) ++ done.step.sends }) has.state.part.log

@@ -1,21 +1,30 @@
--- Which inputs come to a replica that is primary, and which of them need a log number that is not left.
-use Rattle.std.specs.Prelude.{◌≡◌, ℕ, ◌+◌, nat_lt, Bool, true, false, ◌&&◌, List, length}
+-- Which inputs come to a replica that is primary or standby, and which of them need a log number that is not left.
+use Rattle.std.specs.Prelude.{◌≡◌, ℕ, ◌+◌, ◌<◌, ◌≤◌, nat_lt, Bool, true, false, ◌&&◌, List, length}
 use Rattle.std.specs.List.{list_any}
 use Rattle.cl_types.specs.declared.operations.TxnId.{TxnId}
+use Rattle.cl_types.specs.Places.{Place}
+use Rattle.cl_locks.specs.Grants.{mode_held}
+use Rattle.cl_log.specs.declared.records.LogRec.{LogRec}
 use Rattle.cl_log.specs.declared.log.TheConstants.{LOG_NUMBER_MAX}
+use Rattle.cl_log.specs.Kind.{writes, number_before}
 use Rattle.cl_log.specs.Open.{is_open}
 use Rattle.cl_log.specs.Rest.{rest_to_undo}
 use Rattle.cl_control.specs.declared.acts.Act.{Act}
 use Rattle.cl_control.specs.declared.acts.Act.TheVariants as acts
 use Rattle.cl_control.specs.Calls.{MayCommand, command_acts, vote_acts}
 use Rattle.cl_part.specs.State.{State}
-use Rattle.cl_wire.specs.Message.{Content, Command, Answer, Vote, Ask, Prepare, Finish, Decision}
+use Rattle.cl_redo.specs.Condition.{IsFree, IsUnended}
+use Rattle.cl_repair.specs.declared.mode.Mode.{Mode}
+use Rattle.cl_repair.specs.declared.mode.Mode.TheVariants.{Lone, Pair}
+use Rattle.cl_steps.specs.declared.actors.TheConstants.{FRONT}
+use Rattle.cl_wire.specs.Message.{Content, Command, Answer, Vote, Ask, Prepare, Finish, Decision, Log, LogAck}
 pub use Rattle.cl_steps.specs.Steps.{IsSpentWhere}
 use Rattle.cl_vnode.specs.Replica.{ReplicaState}
 
 -- ---- which inputs come
 
--- a command comes where its controller may take it; messages between nodes may always come; the other kinds do not come to a primary
+-- a command comes where its controller may take it, an acknowledgement where its number is in the log, and what other nodes send always;
+-- the other kinds do not come to a primary
 abbrev pub MayCome : ReplicaState → Content → Type 0
 MayCome state (Command v txn number what) = MayCommand state.control txn what
 MayCome state (Answer v txn number answer) = Unit {0}
@@ -24,12 +33,38 @@ MayCome state (Ask v txn number table key op) = Unit {0}
 MayCome state (Prepare v txn) = Unit {0}
 MayCome state (Finish v txn commit) = Unit {0}
 MayCome state (Decision v txn commit) = Unit {0}
+MayCome state (LogAck v number) = number < state.part.next
 MayCome state content = ⊥
+
+-- the standby, where there is one, is a node
+abbrev pub IsStandbyBelow : Mode → Type 0
+IsStandbyBelow Lone = Unit {0}
+IsStandbyBelow (Pair standby) = standby < FRONT
 
 -- the input may come to the replica, in a system of so many nodes
 pub record Fits (nodes : ℕ) (state : ReplicaState) (content : Content) : Type 0 where
   pub same_nodes : nodes ≡ state.control.nodes
   pub comes : MayCome state content
+  pub standby : IsStandbyBelow state.modes.mode
+
+-- a standby may take the record of this number: it is the next one, a write carries the number that stands at its place, no other
+-- transaction's lock conflicts, and its transaction has not ended
+pub record TakesRecord (part : State) (number : ℕ) (content : LogRec) : Type 0 where
+  pub next : number ≡ part.next
+  pub fits : number ≤ LOG_NUMBER_MAX
+  pub carries : (place : Place) → writes place content ≡ true → (part.stored place).0 ≡ number_before content
+  pub free : IsFree (mode_held part.grants) content
+  pub unended : IsUnended part.log content
+
+-- to a standby comes the next record of its primary's log, and nothing else
+abbrev pub MayComeToStandby : ReplicaState → Content → Type 0
+MayComeToStandby state (Log v number content) = TakesRecord state.part number content
+MayComeToStandby state content = ⊥
+
+-- the input may come to the replica as a standby, in a system of so many nodes
+pub record StandbyFits (nodes : ℕ) (state : ReplicaState) (content : Content) : Type 0 where
+  pub same_nodes : nodes ≡ state.control.nodes
+  pub comes : MayComeToStandby state content
 
 -- ---- log numbers
 

@@ -4,6 +4,7 @@ use Rattle.cl_types.specs.declared.answers.Answer.{Answer}
 use Rattle.cl_types.specs.declared.answers.Answer.TheVariants.{NoMemory}
 use Rattle.cl_types.specs.declared.operations.TxnId.{TxnId}
 use Rattle.cl_log.specs.declared.records.LogRec.{LogRec}
+use Rattle.cl_log.specs.LogEntry.{LogEntry}
 use Rattle.cl_control.specs.declared.acts.Act.{Act}
 use Rattle.cl_control.specs.declared.acts.Act.TheVariants.{Ask, Prepare, Finish, Decide, Say}
 use Rattle.cl_control.specs.Calls.{counts_number}
@@ -61,6 +62,11 @@ decide_in acts = None
 -- acts that a controller gives at once: messages, or one Decide of a transaction that waits for its number
 abbrev pub AreActs : ℕ → ControlState → List Act → Type 0
 AreActs nodes control acts = AreSends nodes acts ⊎ ((txn : TxnId) × (acts ≡ Decide txn ∷ []) × (counts_number control txn ≡ true))
+
+-- the entry of this number, where there is a record
+abbrev pub found_at : ℕ → Option LogRec → List LogEntry
+found_at number None = []
+found_at number (Some content) = record { number = number; content = content } ∷ []
 
 -- the record of this number is told, where there is one
 abbrev pub told_at : (ℕ → ℕ) → Stepped → ℕ → Option LogRec → Stepped

@@ -1,5 +1,5 @@
 -- What an input makes of a replica that is primary, and what the step gives.
-use Rattle.std.specs.Prelude.{ℕ, ◌%◌, nat_lt, nat_le, Bool, true, false, ◌&&◌, if◌then◌else◌, List, [], ◌∷◌, ◌++◌, filter, fold}
+use Rattle.std.specs.Prelude.{ℕ, ◌%◌, nat_lt, nat_le, Bool, true, false, ◌&&◌, if◌then◌else◌, List, [], ◌∷◌, ◌++◌, map, filter, fold}
 use Rattle.cl_types.specs.declared.answers.Answer.{Answer as OpAnswer}
 use Rattle.cl_types.specs.declared.answers.Answer.TheVariants.{NoMemory}
 use Rattle.cl_types.specs.declared.operations.Command.{Command as ClientCommand}
@@ -18,11 +18,14 @@ use Rattle.cl_part.specs.Calls.{answer_to, after_op, after_prepare, after_decide
 use Rattle.cl_part.specs.State.{State}
 use Rattle.cl_roster.specs.declared.entry.RosterEntry.{RosterEntry}
 use Rattle.cl_roster.specs.Roles.{roles_after}
+use Rattle.cl_backup.specs.Decisions.{with_decision}
+use Rattle.cl_repair.specs.declared.mode.Mode.{Mode}
+use Rattle.cl_repair.specs.declared.mode.Mode.TheVariants.{Lone, Pair}
+use Rattle.cl_repair.specs.Modes.{ModesState, after_acked}
 use Rattle.cl_steps.specs.declared.actors.TheConstants.{FRONT}
+use Rattle.cl_steps.specs.declared.steps.Outgoing.{Outgoing}
 use Rattle.cl_steps.specs.Steps.{Step, sent, nothing_done}
-use Rattle.cl_wire.specs.Message.{Content, Command, Outcome, Ask, Answer, Prepare, Vote, Finish, Decision}
-use Rattle.cl_vnode.specs.declared.mode.Mode.{Mode}
-use Rattle.cl_vnode.specs.declared.mode.Mode.TheVariants.{Lone}
+use Rattle.cl_wire.specs.Message.{Content, Command, Outcome, Ask, Answer, Prepare, Vote, Finish, Decision, Log, LogAck}
 use Rattle.cl_vnode.specs.Replica.{ReplicaState, safe_number}
 
 -- the primary of each virtual node, by how many nodes there are and the entries of the roster
@@ -50,20 +53,26 @@ with_part done part = record done { state = record done.state { part = part } }
 abbrev pub with_control : Stepped → ControlState → Stepped
 with_control done control = record done { state = record done.state { control = control } }
 
+-- what was acknowledged has changed
+abbrev pub with_modes : Stepped → ModesState → Stepped
+with_modes done modes = record done { state = record done.state { modes = modes } }
+
 -- ---- what a controller asks for
 
 -- the transactions that are firm once a Decide is in the log: without a standby, it is safe at once
 abbrev pub firm_at_once : Mode → TxnId → List TxnId
 firm_at_once Lone txn = txn ∷ []
+firm_at_once (Pair standby) txn = []
 
--- a Decide is appended, and the controller is told its number
+-- a Decide is appended, the controller is told its number, and the decision is kept
 unfoldable pub decided : Stepped → TxnId → Stepped
 decided done txn = record {
   state = record done.state {
     part = after_decide done.state.part txn;
     control = after_decided_at done.state.control txn done.state.part.next;
+    decisions = with_decision done.state.decisions txn;
   };
-  step = record done.step { firm = done.step.firm ++ firm_at_once done.state.mode txn };
+  step = record done.step { firm = done.step.firm ++ firm_at_once done.state.modes.mode txn };
 }
 
 -- an act is performed: it is sent to the primary of its virtual node or to the front, or a Decide is appended
@@ -127,6 +136,7 @@ taken primary done from (Ask v txn number table key op) short = asked done from 
 taken primary done from (Prepare v txn) short = prepared done txn
 taken primary done from (Finish v txn commit) short = finished done txn commit
 taken primary done from (Decision v txn commit) short = finished done txn commit
+taken primary done from (LogAck v number) short = with_modes done (after_acked done.state.modes number)
 taken primary done from content short = done
 
 -- ---- what became safe
@@ -154,8 +164,29 @@ entries_between old new log = filter (λ entry. nat_lt old entry.number && nat_l
 unfoldable pub all_told : (ℕ → ℕ) → ℕ → Stepped → Stepped
 all_told primary old done = fold (entry_told primary) done (entries_between old (safe_number done.state) done.state.part.log)
 
+-- ---- what is shipped to a standby
+
+-- an entry of the log, for the standby
+abbrev pub log_message : ℕ → ℕ → LogEntry → Outgoing
+log_message standby v entry = sent standby (Log v entry.number entry.content)
+
+-- the entries as they are shipped: without a standby, none is
+abbrev pub log_messages : Mode → ℕ → List LogEntry → List Outgoing
+log_messages Lone v entries = []
+log_messages (Pair standby) v entries = map (log_message standby v) entries
+
+-- the entries from a number on
+abbrev pub entries_from : ℕ → List LogEntry → List LogEntry
+entries_from next log = filter (λ entry. nat_le next entry.number) log
+
+-- what was appended from this number on is shipped, before what else is sent
+abbrev pub shipped : ℕ → Stepped → Stepped
+shipped next done = record done {
+  step = record done.step { sends = log_messages done.state.modes.mode done.state.v (entries_from next done.state.part.log) ++ done.step.sends };
+}
+
 -- ---- a step
 
--- a step: the input is taken, and what became safe is told
+-- a step: the input is taken, what became safe is told, and what was appended is shipped
 abbrev pub stepped : (ℕ → ℕ) → ReplicaState → ℕ → Content → Bool → Stepped
-stepped primary state from content short = all_told primary (safe_number state) (taken primary (started state) from content short)
+stepped primary state from content short = shipped state.part.next (all_told primary (safe_number state) (taken primary (started state) from content short))

@@ -3,12 +3,14 @@
 
 mod admitting;
 mod laws;
-mod mode;
 mod news;
 mod participant;
 mod sending;
+mod shipping;
+mod taking;
 mod vnode;
 
-pub use laws::{every_replica_has_state, steps_keep_replica, steps_send_to_receivers};
-pub use mode::Mode;
+pub use laws::{
+    every_replica_has_state, standby_steps, steps_keep_replica, steps_send_to_receivers,
+};
 pub use vnode::Vnode;

@@ -1,22 +1,26 @@
 //! The replica.
 ghost use Rattle.cl_part.specs.State.{IsBelowNext};
 
-use crate::Mode;
-use crate::admitting::may_come;
+use crate::admitting::{may_come, may_come_to_standby};
 use crate::news::{News, news_at};
 use crate::participant::{ask, finish, is_full, prepare};
 use crate::sending::{decide_in, reply, send_all, send_to_primary};
+use crate::shipping::{ship, tell_firm_at_once};
+use crate::taking::{keep_decision, take_record, tell_firm};
+use cl_backup::Decisions;
 use cl_control::{ActList, Control};
+use cl_log::LogRec;
 use cl_part::Part;
-use cl_roster::{Roster, rosters_are_lawful};
+use cl_repair::{Mode, Modes};
+use cl_roster::{Roles, Roster, rosters_are_lawful};
 use cl_steps::Steps;
 use cl_store::Store;
 use cl_types::{Answer, Command, NoMemory, Refused, TxnId};
 use cl_wire::Body;
 use std::alloc::Global;
 
-/// One replica of a virtual node: its participant, and the controller of the sessions that the
-/// virtual node serves.
+/// One replica of a virtual node: its participant, the controller of the sessions that the virtual
+/// node serves, how it makes its log safe, and the decisions of its log.
 ///
 /// Contracts see it as a replica's state (`IsReplicaStateOf`). A node makes one for each virtual node
 /// of which it is a member, and hands it each message that is for it.
@@ -25,13 +29,14 @@ pub struct Vnode {
     v: u32,
     part: Part,
     control: Control,
-    mode: Mode,
+    modes: Modes,
+    decisions: Decisions,
     alloc: Global,
     ghost below: { IsBelowNext part },
 }
 
 impl Vnode {
-    ghost use Rattle.std.specs.Prelude.{◌≡◌, true, false, ◌&&◌, IsTrue, IfOk, OnOk};
+    ghost use Rattle.std.specs.Prelude.{◌≡◌, ◌+◌, true, false, ◌&&◌, IsTrue, IfOk, OnOk};
     ghost use Rattle.cl_control.specs.Calls.{MayCommand, command_acts, counts_number, vote_acts};
     ghost use Rattle.cl_log.specs.Log.{entries, next_number};
     ghost use Rattle.cl_log.specs.LogEntry.{content_at};
@@ -42,22 +47,28 @@ impl Vnode {
     ghost use Rattle.cl_types.specs.Places.{Place};
     ghost use Rattle.cl_wire.specs.Message.{content_of};
     ghost use Rattle.cl_vnode.specs.Inputs as inputs;
-    ghost use Rattle.cl_vnode.specs.Inputs.{Fits, IsSpentWhere, MayCome, has_decide, is_spent};
-    ghost use Rattle.cl_vnode.specs.Replica.{ReplicaState, IsReplicaStateOf, first_replica, is_busy, safe_number};
+    ghost use Rattle.cl_vnode.specs.Inputs.{Fits, IsSpentWhere, MayCome, StandbyFits, TakesRecord, has_decide, is_spent};
+    ghost use Rattle.cl_vnode.specs.Replica.{ReplicaState, IsReplicaStateOf, is_busy, new_replica, safe_number};
     ghost use Rattle.cl_vnode.specs.Sending.{AreActs, HasStepped, primary_of, told_at};
-    ghost use Rattle.cl_vnode.specs.Step.{Stepped, all_performed, all_told, answered, commanded, decided, primary_in, stepped, taken, voted};
+    ghost use Rattle.cl_vnode.specs.Standby.{standby_stepped, with_record};
+    ghost use Rattle.cl_vnode.specs.Step.{Stepped, all_performed, all_told, answered, commanded, decided, primary_in, shipped, stepped, taken, voted};
 
-    /// The first replica of the virtual node `v`, in a system of so many nodes. It has no standby.
-    /// It allocates nothing.
-    pub fn new(alloc: Global, v: u32, nodes: u32) -> Vnode
+    /// A new replica of the virtual node `v`, in a system of so many nodes, with this standby where
+    /// there is one. It allocates nothing.
+    pub fn new(alloc: Global, v: u32, nodes: u32, standby: Option<u32>) -> Vnode
         requires { IsNodeCount nodes }
-        ensures { IsReplicaStateOf result (first_replica v nodes) }
+        ensures { IsReplicaStateOf result (new_replica v nodes standby) }
     {
+        let roles = Roles {
+            primary: v,
+            standby,
+        };
         Vnode {
             v,
             part: Part::new(alloc, 1),
             control: Control::new(alloc, nodes),
-            mode: Mode::Lone,
+            modes: Modes::new(v, &roles),
+            decisions: Decisions::new(alloc),
             alloc,
         }
     }
@@ -70,7 +81,19 @@ impl Vnode {
         ensures refused { (state : ReplicaState) → IsReplicaStateOf self.now state
             → Fits roster.now.nodes state (content_of body.now) → IsTrue result }
     {
-        roster.nodes() == self.control.nodes() && may_come(&self.control, body)
+        roster.nodes() == self.control.nodes()
+            && may_come(self.modes.mode(), &self.control, &self.part, body)
+    }
+
+    /// Whether the message may come to the virtual node's standby now. A caller that keeps to the
+    /// order need not ask. It costs at most one look-up in the store, in the locks and in the log.
+    pub fn admits_standby(&self, roster: &Roster, body: &Body) -> bool
+        ensures admitted { IsTrue result → (state : ReplicaState) × IsReplicaStateOf self.now state
+            × StandbyFits roster.now.nodes state (content_of body.now) }
+        ensures refused { (state : ReplicaState) → IsReplicaStateOf self.now state
+            → StandbyFits roster.now.nodes state (content_of body.now) → IsTrue result }
+    {
+        roster.nodes() == self.control.nodes() && may_come_to_standby(&self.part, body)
     }
 
     /// Takes a message as the virtual node's primary, and gives what is to be sent.
@@ -78,7 +101,8 @@ impl Vnode {
     /// The node calls it for each message that it accepted for a virtual node of which it is primary,
     /// with the roster as it has noted it. After an error the replica may only be dropped. A step
     /// costs its look-ups and appends: a command's, an answer's and a vote's are the controller's,
-    /// and an end that is no commit takes back each write of its transaction.
+    /// and an end that is no commit takes back each write of its transaction. With a standby each
+    /// record that is appended is copied once more, for it.
     pub fn primary_step(
         &mut self,
         roster: &Roster,
@@ -93,11 +117,64 @@ impl Vnode {
         ensures spent { (before : ReplicaState) → IsReplicaStateOf self.old before
             → IsSpentWhere (is_spent before (content_of body.now)) result }
     {
+        let last = self.part.log.last();
         let safe = self.safe_number();
         let mut steps = Steps::new(self.alloc);
         self.take(roster, &mut steps, from, body)?;
         self.tell_safe(roster, &mut steps, safe)?;
+        Ok(self.ship(steps, last)?)
+    }
+
+    /// Takes a message as the virtual node's standby, and gives what is to be sent.
+    ///
+    /// The node calls it for each message that it accepted for a virtual node of which it is standby.
+    /// A record is copied once. After an error the replica may only be dropped.
+    pub fn standby_step(
+        &mut self,
+        roster: &Roster,
+        from: u32,
+        body: &Body,
+    ) -> Result<Steps, Refused>
+        requires { (before : ReplicaState) × IsReplicaStateOf self.old before
+            × StandbyFits roster.now.nodes before (content_of body.now) }
+        ensures step { (before : ReplicaState) → IsReplicaStateOf self.old before → IfOk result (λ steps.
+            let after = standby_stepped before from (content_of body.now) in
+            IsReplicaStateOf self.new after.state × (step_of steps ≡ after.step)) }
+        ensures spent { IsSpentWhere false result }
+    {
+        let mut steps = Steps::new(self.alloc);
+        if let Body::Log(v, number, content) = body {
+            self.take_record(*number, content)?;
+            tell_firm(&mut steps, content)?;
+            steps.send(from, Body::LogAck(*v, *number))?;
+        }
         Ok(steps)
+    }
+
+    // Takes a record of the primary's log.
+    fn take_record(&mut self, number: u64, content: &LogRec) -> Result<(), NoMemory>
+        requires { (before : ReplicaState) × IsReplicaStateOf self.old before × TakesRecord before.part number content.now }
+        ensures { (before : ReplicaState) → IsReplicaStateOf self.old before
+            → OnOk result (IsReplicaStateOf self.new (with_record before content.now)) }
+    {
+        let copied = content.copy(self.alloc)?;
+        take_record(self.alloc, &mut self.part, number, copied)?;
+        keep_decision(&mut self.decisions, content)
+    }
+
+    // Ships what was appended since the log ended with this number.
+    fn ship(&self, steps: Steps, last: u64) -> Result<Steps, NoMemory>
+        ensures { (done : Stepped) → HasStepped self.now steps done
+            → IfOk result (λ shipping. HasStepped self.now shipping (shipped (last + 1) done)) }
+    {
+        ship(
+            self.alloc,
+            self.modes.mode(),
+            self.v,
+            &self.part.log,
+            last,
+            steps,
+        )
     }
 
     /// The records, for a dump.
@@ -108,19 +185,21 @@ impl Vnode {
         &self.part.store
     }
 
-    /// Whether a rollback, an inquiry or a repair is under way between two steps: never without a
-    /// standby, since each step ends what it begins.
+    /// Whether a rollback, an inquiry or a repair is under way between two steps: never, since each
+    /// step ends what it begins.
     pub fn busy(&self) -> bool
         ensures { (state : ReplicaState) → IsReplicaStateOf self.now state → result ≡ is_busy state }
     {
-        self.mode.is_lasting()
+        match self.modes.mode() {
+            Mode::Lone | Mode::Pair(_) => false,
+        }
     }
 
     // Up to which number the log is safe.
     fn safe_number(&self) -> u64
         ensures { (state : ReplicaState) → IsReplicaStateOf self.now state → result ≡ safe_number state }
     {
-        self.mode.safe_to(self.part.log.last())
+        self.modes.safe_to(self.part.log.last())
     }
 
     // Takes an input of any kind. The mark of an operation stands in what the step gives.
@@ -152,6 +231,10 @@ impl Vnode {
             Body::Prepare(_, txn) => prepare(&mut self.part, *txn),
             Body::Finish(_, txn, commit) | Body::Decision(_, txn, commit) => {
                 finish(&mut self.part, *txn, *commit)
+            }
+            Body::LogAck(_, number) => {
+                self.modes.acked(*number);
+                Ok(())
             }
             _ => Ok(()),
         }
@@ -247,10 +330,8 @@ impl Vnode {
         }
         let number = self.part.decide(txn)?;
         self.control.decided_at(txn, number);
-        match self.mode {
-            Mode::Lone => steps.firm.push(txn)?,
-        }
-        Ok(())
+        self.decisions.take(txn)?;
+        Ok(tell_firm_at_once(self.modes.mode(), steps, txn)?)
     }
 
     // Tells what became safe since the log was safe up to this number.

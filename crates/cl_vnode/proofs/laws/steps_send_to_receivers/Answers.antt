@@ -1,4 +1,5 @@
-use Rattle.cl_vnode.proofs.Receivers.{marks_are_alike, steps_send_to_receivers}
+use Rattle.cl_vnode.proofs.Marks.{marks_are_alike}
+use Rattle.cl_vnode.proofs.Receivers.{steps_send_to_receivers}
 use Rattle.cl_vnode.proofs.laws.steps_send_to_receivers.Goals as goal
 
 pub returns-clause-receivers : goal.returns-clause-receivers

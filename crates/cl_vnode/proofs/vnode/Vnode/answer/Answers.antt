@@ -25,7 +25,8 @@ pub returns-clause-step : goal.returns-clause-step
 unfolding answered
 returns-clause-step c before has =
     controlled_sent c.args.self.now _ c.args.steps.now c.send_all.new.steps (primary_of c.args.roster.now) c.args.roster.now.nodes before (items c.in_ok-acts.acts)
-    (λ s. after_answer s c.args.v c.args.txn c.args.number c.args.answer.now) (λ s. answer_acts s c.args.v c.args.txn c.args.number c.args.answer.now) has refl refl refl
+    (λ s. after_answer s c.args.v c.args.txn c.args.number c.args.answer.now)
+    (λ s. answer_acts s c.args.v c.args.txn c.args.number c.args.answer.now) has refl refl refl refl
     (c.in_ok-acts.ensures.state ∙ ap (after_answer c.args.self.now.control c.args.v c.args.txn c.args.number) c.in_ok-answer.ensures)
     (c.in_ok-acts.ensures.acts ∙ ap (answer_acts c.args.self.now.control c.args.v c.args.txn c.args.number) c.in_ok-answer.ensures)
     (sends_given c.args.roster.now.nodes c.args.self.now.control c.args.v c.args.txn c.args.number c.in_ok-answer.answer (items c.in_ok-acts.acts) c.requires c.in_ok-acts.ensures.acts)

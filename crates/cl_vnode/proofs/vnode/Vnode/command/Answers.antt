@@ -22,7 +22,9 @@ returns-clause-step c before has =
     let after : Stepped = with_control before (after_command before.state.control c.args.txn c.args.number c.args.what.now) in
     subst (λ (acts : List Act). OnOk c.perform.result (HasStepped c.perform.new.self c.perform.new.steps (all_performed (primary_of c.args.roster.now) after acts)))
     (c.in_ok-acts.ensures.acts ∙ ap (λ (s : ControlState). command_acts s c.args.txn c.args.number c.args.what.now) has.state.control)
-    (c.perform.ensures.step after (controlled c.args.self.now _ c.args.steps.now before (λ s. after_command s c.args.txn c.args.number c.args.what.now) has refl refl refl c.in_ok-acts.ensures.state))
+    (c.perform.ensures.step after
+    (controlled c.args.self.now _ c.args.steps.now before
+    (λ s. after_command s c.args.txn c.args.number c.args.what.now) has refl refl refl refl c.in_ok-acts.ensures.state))
 
 pub returns-clause-nodes : goal.returns-clause-nodes
 returns-clause-nodes c =

@@ -34,7 +34,8 @@ pub returns-in_ok-reply-in-Ask-clause-step : goal.returns-in_ok-reply-in-Ask-cla
 returns-in_ok-reply-in-Ask-clause-step c before has =
     let place : Place = (c.in-Ask.table, c.in-Ask.key) in
     rw c.in-Ask.is
-    (has_asked c.args.self.now _ c.args.steps.now c.reply.new.steps before c.args.from c.in-Ask.v c.in-Ask.txn c.in-Ask.number place c.in-Ask.op has refl refl refl c.in_ok-answer-in-Ask.answer
+    (has_asked c.args.self.now _ c.args.steps.now c.reply.new.steps before c.args.from c.in-Ask.v c.in-Ask.txn c.in-Ask.number place c.in-Ask.op
+    has refl refl refl refl c.in_ok-answer-in-Ask.answer
     (c.in_ok-answer-in-Ask.ensures.answer before.state.part has.state.part) (c.in_ok-answer-in-Ask.ensures.state before.state.part has.state.part)
     (c.in_ok-answer-in-Ask.ensures.no_memory before.state.part has.state.part) c.in_ok-reply-in-Ask.ensures)
 
@@ -42,7 +43,12 @@ pub returns-in-Prepare-clause-step : goal.returns-in-Prepare-clause-step
 unfolding prepared
 returns-in-Prepare-clause-step c before has =
     rw c.in-Prepare.is
-    (OnOk-map c.prepare.result _ _ (λ now. record { state = record { v = has.state.v; part = now; control = has.state.control; mode = has.state.mode }; step = has.step })
+    (OnOk-map c.prepare.result _ _
+    (λ now. record {
+      state =
+          record { v = has.state.v; part = now; control = has.state.control; modes = has.state.modes; decisions = has.state.decisions };
+      step = has.step;
+    })
     (c.prepare.ensures.state before.state.part has.state.part))
 
 -- ---- a Finish or a Decision
@@ -72,7 +78,12 @@ returns-in-Finish-clause-step c before has =
     let open_here : Bool = is_open before.state.part.log txn in
     rw (finish_taken (primary_of c.args.roster.now) before c.args.from c.args.steps.now.short c.args.body.now txn c.in-Finish.commit c.in-Finish.is)
     (rw (sym (either_part open_here before (after_finish before.state.part txn c.in-Finish.commit)))
-    (OnOk-map c.finish.result _ _ (λ now. record { state = record { v = has.state.v; part = now; control = has.state.control; mode = has.state.mode }; step = has.step })
+    (OnOk-map c.finish.result _ _
+    (λ now. record {
+      state =
+          record { v = has.state.v; part = now; control = has.state.control; modes = has.state.modes; decisions = has.state.decisions };
+      step = has.step;
+    })
     (c.finish.ensures.state before.state.part has.state.part)))
 
 pub returns-in-Finish-clause-spent : goal.returns-in-Finish-clause-spent

@@ -47,7 +47,9 @@ returns-in_ok-acts-in-Decision-clause-step c before has =
     (rw (sym c.news_at.ensures ∙ c.in-Decision.is)
     (OnOk-map c.send_all.result _ _ (λ gave.
     controlled_sent c.args.self.now _ c.args.steps.now c.send_all.new.steps primary c.args.roster.now.nodes before (items c.in_ok-acts-in-Decision.acts)
-    (λ s. after_safe s c.args.number) (λ s. safe_acts s c.args.number) has refl refl refl c.in_ok-acts-in-Decision.ensures.state c.in_ok-acts-in-Decision.ensures.acts sends gave) c.send_all.ensures))
+    (λ s. after_safe s c.args.number)
+    (λ s. safe_acts s c.args.number) has refl refl refl refl
+    c.in_ok-acts-in-Decision.ensures.state c.in_ok-acts-in-Decision.ensures.acts sends gave) c.send_all.ensures))
 
 pub returns-in_ok-acts-in-Decision-clause-nodes : goal.returns-in_ok-acts-in-Decision-clause-nodes
 returns-in_ok-acts-in-Decision-clause-nodes c =

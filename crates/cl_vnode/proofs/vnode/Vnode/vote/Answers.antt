@@ -22,7 +22,8 @@ returns-clause-step c before has =
     let after : Stepped = with_control before (after_vote before.state.control c.args.v c.args.txn) in
     subst (λ (acts : List Act). OnOk c.perform.result (HasStepped c.perform.new.self c.perform.new.steps (all_performed (primary_of c.args.roster.now) after acts)))
     (c.in_ok-acts.ensures.acts ∙ ap (λ (s : ControlState). vote_acts s c.args.v c.args.txn) has.state.control)
-    (c.perform.ensures.step after (controlled c.args.self.now _ c.args.steps.now before (λ s. after_vote s c.args.v c.args.txn) has refl refl refl c.in_ok-acts.ensures.state))
+    (c.perform.ensures.step after
+    (controlled c.args.self.now _ c.args.steps.now before (λ s. after_vote s c.args.v c.args.txn) has refl refl refl refl c.in_ok-acts.ensures.state))
 
 pub returns-clause-nodes : goal.returns-clause-nodes
 returns-clause-nodes c =

@@ -36,6 +36,7 @@ pub(crate) enum Input {
     Vote(u32),
     Finish(u32, bool),
     Decision(u32, bool),
+    LogAck(u32, u64),
 }
 
 // A message that a step gives.
@@ -52,6 +53,8 @@ pub(crate) enum Sent {
     SaysStored(u32),
     Committed(u32),
     Aborted(u32, AbortCause),
+    Log(u32, u64),
+    LogAck(u32, u64),
 }
 
 // The primaries of virtual nodes 0 and 1, on the nodes of the same number.
@@ -62,11 +65,11 @@ pub(crate) struct Cluster {
     pub(crate) one: Vnode,
 }
 
-pub(crate) fn new_cluster(alloc: Global) -> Cluster {
+pub(crate) fn new_cluster(alloc: Global, standby: Option<u32>) -> Cluster {
     Cluster {
         roster: Roster::new(alloc, 4, 0),
-        zero: Vnode::new(alloc, 0, 4),
-        one: Vnode::new(alloc, 1, 4),
+        zero: Vnode::new(alloc, 0, 4, standby),
+        one: Vnode::new(alloc, 1, 4, standby),
     }
 }
 
@@ -99,6 +102,7 @@ pub(crate) fn message(alloc: Global, txn: TxnId, input: Input) -> Result<Body, N
         Input::Vote(v) => Body::Vote(v, txn),
         Input::Finish(v, commit) => Body::Finish(v, txn, commit),
         Input::Decision(v, commit) => Body::Decision(v, txn, commit),
+        Input::LogAck(v, number) => Body::LogAck(v, number),
     })
 }
 
@@ -173,6 +177,10 @@ fn is_message(body: &Body, txn: TxnId, wanted: Sent) -> bool {
         (Body::Outcome(of, number, outcome), wanted) => {
             *of == txn && is_said(*number, outcome, wanted)
         }
+        (Body::Log(v, number, content), Sent::Log(w, wanted)) => {
+            *v == w && content.txn() == txn && *number == wanted
+        }
+        (Body::LogAck(v, number), Sent::LogAck(w, wanted)) => *v == w && *number == wanted,
         _ => false,
     }
 }

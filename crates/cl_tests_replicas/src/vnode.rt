@@ -125,7 +125,7 @@ fn a_commit_over_two_virtual_nodes(rt: HostRuntime) -> Result<(), Fail> {
             false,
         ),
     ];
-    let mut cluster = new_cluster(rt.alloc());
+    let mut cluster = new_cluster(rt.alloc(), None);
     for (name, at, from, input, sent, firm) in rows {
         let steps = step(&rt, rt.alloc(), &mut cluster, at, from, ONE, input)?;
         assert!(rt; gave(&steps, ONE, sent, firm), "{name}");
@@ -217,7 +217,7 @@ fn a_refusal_aborts_and_a_rollback_ends(rt: HostRuntime) -> Result<(), Fail> {
             [].as_slice(),
         ),
     ];
-    let mut cluster = new_cluster(rt.alloc());
+    let mut cluster = new_cluster(rt.alloc(), None);
     for (name, at, from, txn, input, sent) in rows {
         let steps = step(&rt, rt.alloc(), &mut cluster, at, from, txn, input)?;
         assert!(rt; gave(&steps, txn, sent, false), "{name}");
@@ -270,7 +270,7 @@ fn a_commit_alone_and_want_of_memory(rt: HostRuntime) -> Result<(), Fail> {
             true,
         ),
     ];
-    let mut cluster = new_cluster(rt.alloc());
+    let mut cluster = new_cluster(rt.alloc(), None);
     for (name, from, input, sent, firm) in rows {
         let steps = step(&rt, rt.alloc(), &mut cluster, 1, from, ONE, input)?;
         assert!(rt; gave(&steps, ONE, sent, firm), "{name}");
@@ -281,7 +281,7 @@ fn a_commit_alone_and_want_of_memory(rt: HostRuntime) -> Result<(), Fail> {
 
 #[test]
 fn what_comes_at_another_time_is_not_admitted(rt: HostRuntime) -> Result<(), Fail> {
-    let cluster = new_cluster(rt.alloc());
+    let cluster = new_cluster(rt.alloc(), None);
     let commit = message(rt.alloc(), txn(1, 1), Input::Commit(1))?;
     assert!(rt; !cluster.one.admits(&cluster.roster, &commit));
     assert!(rt; !cluster.one.admits(&cluster.roster, &Body::Bare));

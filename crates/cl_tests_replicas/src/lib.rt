@@ -1,0 +1,9 @@
+//! Tests of one replica, primary or standby, through its public calls, a module for each.
+#![tactic(auto)]
+
+#[cfg(test)]
+mod pair;
+#[cfg(test)]
+mod primaries;
+#[cfg(test)]
+mod vnode;
