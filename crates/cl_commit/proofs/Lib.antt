@@ -23,3 +23,4 @@ pub mod Committing
 pub mod Turns
 pub mod Fronts
 pub mod Events
+pub mod Reordering

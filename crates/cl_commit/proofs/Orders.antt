@@ -179,7 +179,7 @@ module _ (v : ℕ) where
   may_vote aborted (inr (inl h)) = absurd (cc)
   may_vote aborted (inr (inr h)) = absurd (cc)
 
-  participant_ends : (commit : Bool) (phase : Phase) (has_voted : Bool) → MayParticipate phase has_voted v (ending commit) → ⊥
+  pub participant_ends : (commit : Bool) (phase : Phase) (has_voted : Bool) → MayParticipate phase has_voted v (ending commit) → ⊥
   participant_ends commit Idle has_voted h = absurd (cc)
   participant_ends commit (Asked m w) has_voted (inl h) = by h.1
     where

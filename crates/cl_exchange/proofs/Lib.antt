@@ -14,3 +14,5 @@ pub mod Heard
 pub mod Events
 pub mod Inputs
 pub mod Runs
+pub mod Reordering
+pub mod Firm

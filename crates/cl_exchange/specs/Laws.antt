@@ -12,7 +12,8 @@ use Rattle.cl_steps.specs.declared.actors.TheConstants.{FRONT}
 use Rattle.cl_types.specs.declared.limits.TheConstants.{SESSIONS_MAX}
 use Rattle.cl_wire.specs.Message.{Content, Message}
 use Rattle.cl_system.specs.Laws.{AreAlike}
-use Rattle.cl_system.specs.Replicas.{ReplicaWorld, after_replica_event, first_replica_world, replica_world_after, MayReplicas, EventFits}
+use Rattle.cl_system.specs.Firm.{AreReordered, with_order, OfFirmRuns, firm_world_after}
+use Rattle.cl_system.specs.Replicas.{Mail, ReplicaWorld, after_replica_event, first_replica_world, replica_world_after, MayReplicas, EventFits}
 use Rattle.cl_system.specs.Roles.{AreInPlace}
 use Rattle.cl_system.specs.System.{Core, front, node, delivered_core, fed_core, system}
 use Rattle.cl_exchange.specs.Stage.{Stage, IsAt, view_of}
@@ -39,6 +40,15 @@ EventsFit = (shape : Shape) (world : ReplicaWorld) (event : QueueEvent) → IsCl
 abbrev pub EventsKeepSound : Type 0
 EventsKeepSound = (shape : Shape) (world : ReplicaWorld) (event : QueueEvent) → IsClusterSize shape.nodes shape.spares → IsSoundWorld shape world → MayReplicas world event →
     IsSoundWorld shape (after_replica_event shape world event)
+
+-- another order of what is on its way keeps it so
+abbrev pub ReorderKeepsSound : Type 0
+ReorderKeepsSound = (shape : Shape) (world : ReplicaWorld) (mail : Mail) → IsClusterSize shape.nodes shape.spares → IsSoundWorld shape world → AreReordered world.mail mail →
+    IsSoundWorld shape (with_order world mail)
+
+-- so it holds after every firm run
+abbrev pub FirmRunsAreSound : Type 0
+FirmRunsAreSound = OfFirmRuns (λ shape events. IsSoundWorld shape (firm_world_after shape events).world)
 
 -- a run of the system is one of its replicas, and these are sound
 pub record IsReplicaRun (shape : Shape) (run : Run) : Type 0 where

@@ -4,3 +4,4 @@ pub mod ReplicaSends
 pub mod Places
 pub mod Nodes
 pub mod Alike
+pub mod Reordering

@@ -1,4 +1,5 @@
 pub mod System
+pub mod Firm
 pub mod Replicas
 pub mod Roles
 pub mod Laws
