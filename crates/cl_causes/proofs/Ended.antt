@@ -2,15 +2,14 @@
 use Rattle.std.proofs.Common.{◌≡◌, ℕ, zero, suc, ◌<◌, ◌≤◌, true, List, [], ◌∷◌, ◌++◌, length, take, drop, Some, None, inl, inr, refl, sym, ap, ◌∙◌, subst, arith}
 use Rattle.std.specs.List.{fold}
 use Rattle.std.proofs.lemmas.List.{take-append-drop}
-use Rattle.cl_causes.specs.Causes.{HasEndedBefore, IsConflict, IsTrueCause, WasShort, TrueCauses}
-use Rattle.cl_runs.specs.World.{Shape, Run}
+use Rattle.cl_causes.specs.Causes.{HasEndedBefore, IsConflict, IsTrueCause, TrueCauses}
 use Rattle.cl_serial.specs.Exchanges.{Exchange, outcome_of}
 use Rattle.cl_serial.specs.Serial.{StandsAt, IsIn}
 use Rattle.cl_serial.specs.Transactions.{session_step, new_session, is_end, commands_of}
 use Rattle.cl_serial.specs.Transcript.{TranscriptEntry, questions, answers, quiet}
 use Rattle.cl_serial.proofs.Places.{StandsAt-within}
 use Rattle.cl_shown.specs.Laws.{SessionHasOutstanding}
-use Rattle.cl_shown.specs.Shown.{with_outstanding, transcript_after}
+use Rattle.cl_shown.specs.Shown.{with_outstanding}
 use Rattle.cl_system.specs.Roles.{IsOfSession}
 use Rattle.cl_told.specs.Told.{told_session, answered_part}
 use Rattle.cl_types.specs.declared.answers.AbortCause.{AbortCause}
@@ -85,17 +84,18 @@ module _ (outstanding : SessionHasOutstanding) (transcript : List TranscriptEntr
       }
 
 -- each reply names a true cause
-module _ (shape : Shape) (run : Run) (outstanding : SessionHasOutstanding) (few : (s : ℕ) → length (answers s (transcript_after shape run)) ≤ length (questions s (transcript_after shape run)))
-    (quiet_few : (p : ℕ) → StandsAt (transcript_after shape run) p quiet → (name : TxnId) → IsOfSession name →
-    length (answers name.session (take p (transcript_after shape run))) ≤ length (questions name.session (take p (transcript_after shape run)))) where
-  true_cause : (name : TxnId) (asked : Exchange) (position : ℕ) (cause : AbortCause) →
-      IsCause (WasShort shape run) (transcript_after shape run) name asked position cause → IsTrueCause shape run name asked position cause
-  true_cause name asked position (Conflict holder) h = conflict_of outstanding (transcript_after shape run) few quiet_few name holder asked position h
+module _ (Short : TxnId → ℕ → Type 0) (outstanding : SessionHasOutstanding) (transcript : List TranscriptEntry)
+    (few : (s : ℕ) → length (answers s transcript) ≤ length (questions s transcript))
+    (quiet_few : (p : ℕ) → StandsAt transcript p quiet → (name : TxnId) → IsOfSession name →
+    length (answers name.session (take p transcript)) ≤ length (questions name.session (take p transcript))) where
+  true_cause : (name : TxnId) (asked : Exchange) (position : ℕ) (cause : AbortCause) → IsCause Short transcript name asked position cause →
+      IsTrueCause transcript Short name asked position cause
+  true_cause name asked position (Conflict holder) h = conflict_of outstanding transcript few quiet_few name holder asked position h
   true_cause name asked position (Node node) h = h
   true_cause name asked position Client h = h
   true_cause name asked position Memory h = h
 
-  pub true_causes : AreCaused (WasShort shape run) (transcript_after shape run) → TrueCauses shape run
+  pub true_causes : AreCaused Short transcript → TrueCauses transcript Short
   true_causes caused session position cause h =
-      let is : IsCaused (WasShort shape run) (transcript_after shape run) session position cause = caused session position cause h in
+      let is : IsCaused Short transcript session position cause = caused session position cause h in
       (is.number, is.asked, is.is_in, is.answered, true_cause (record { session = session; number = is.number }) is.asked position cause is.caused)

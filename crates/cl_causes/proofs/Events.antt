@@ -1,6 +1,7 @@
 -- One event: each message on its way still says what is so, each reply still has its cause, and who had ended quietly is still gone.
 use Rattle.std.proofs.Common.{◌≡◌, ◌≢◌, ℕ, zero, suc, ◌+◌, ◌%◌, ◌<◌, ◌≤◌, Bool, true, false, cond, eqb, ◌⊎◌, inl, inr, List, [], ◌∷◌, ◌++◌, length, take, All, refl, sym, ap, ◌∙◌, subst, subst₂, arith}
 use Rattle.std.proofs.lemmas.Bool.{cases_eq, ne_eqb, eq-eqb, cond_both, false≢true}
+use Rattle.std.proofs.lemmas.List.{append-nil}
 use Rattle.std.proofs.lemmas.List.Elements.{All-nil, All-head, All-weaker}
 use Rattle.cl_causes.specs.Causes.{IsAskOf}
 use Rattle.cl_commit.specs.Life.{CommitsWhole}
@@ -21,8 +22,10 @@ use Rattle.cl_serial.specs.Transcript.{TranscriptEntry, written, quiet, question
 use Rattle.cl_served.specs.Served.{IsLedgerShown}
 use Rattle.cl_shown.specs.Laws.{SessionHasOutstanding}
 use Rattle.cl_steps.specs.declared.actors.TheConstants.{FRONT}
-use Rattle.cl_system.specs.Replicas.{ReplicaWorld, own_primary, nothing_noted, with_way, front_acts, replica_acts, after_message, after_first, after_replica_event, first_replica_world, MayReplicas}
+use Rattle.cl_system.specs.Firm.{FirmWorld, AreReordered, with_order}
+use Rattle.cl_system.specs.Replicas.{Mail, ReplicaWorld, own_primary, nothing_noted, with_way, front_acts, replica_acts, after_message, after_first, after_replica_event, first_replica_world, MayReplicas}
 use Rattle.cl_system.specs.Roles.{IsOfSession, IsAddressed}
+use Rattle.cl_system.proofs.Reordering.{reordered_all}
 use Rattle.cl_system.proofs.Sends.{line_sends, message_sends}
 use Rattle.cl_told.specs.Told.{told_session, SessionsAreTold}
 use Rattle.cl_types.proofs.PlacementLaws.{node_count-bounds, node_count-some}
@@ -32,12 +35,12 @@ use Rattle.cl_types.specs.declared.operations.Command.TheVariants.{Begin, Work, 
 use Rattle.cl_types.specs.declared.operations.TxnId.{TxnId}
 use Rattle.cl_vnode.specs.Replica.{ReplicaState}
 use Rattle.cl_wire.specs.Message.{Content, Command, Outcome, Ask, Answer}
-use Rattle.cl_causes.proofs.Sessions.{ended_grow}
+use Rattle.cl_causes.proofs.Sessions.{begins_itself, ended_grow}
 use Rattle.cl_causes.proofs.Transcripts.{new_pairs, told_more}
-use Rattle.cl_causes.proofs.Claims.{Grows, Says, IsCaused, AreCaused, longer, says_stay, caused_stays, take-before}
+use Rattle.cl_causes.proofs.Claims.{lines_in, Grows, Says, IsCaused, AreCaused, longer, says_stay, caused_stays, take-before}
 use Rattle.cl_causes.proofs.Commands.{command_asked, outcome_caused}
 use Rattle.cl_causes.proofs.Entries.{ArePlain, plain_at, AddsEntries, plain, replied, noted, event_adds}
-use Rattle.cl_causes.proofs.Gone.{IsGone, gone_not_open, gone_when_quiet, stays_gone}
+use Rattle.cl_causes.proofs.Gone.{IsGone, gone_not_open, reorder_gone, gone_when_quiet, stays_gone}
 use Rattle.cl_causes.proofs.Grants.{AreOwn, AsksOfSession, own_step}
 use Rattle.cl_causes.proofs.Growing.{grows}
 use Rattle.cl_causes.proofs.Numbers.{AreFit, fit_first, fit_in, event_fit}
@@ -75,16 +78,21 @@ pub record IsCausedWorld (shape : Shape) (Short : TxnId → ℕ → Type 0) (wor
   pub own : (v : ℕ) → AreOwn (world.replicas v).part.grants
   pub fit : AreFit world.front.sessions
 
-module _ (shape : Shape) (size : IsClusterSize shape.nodes shape.spares) (world : ReplicaWorld) (event : QueueEvent) (may : MayReplicas world event)
-    (sound : IsSoundWorld shape world) (whole : CommitsWhole shape world) (told : SessionsAreTold shape world) (outstanding : SessionHasOutstanding)
-    (ledger : Ledger) (is : IsLedgerOf shape world ledger) (shown : IsLedgerShown world.front.transcript ledger)
-    (fit_turns : AnswersFitTurns (after_replica_event shape world event).front.transcript)
-    (all_few : (s : ℕ) → length (answers s (after_replica_event shape world event).front.transcript) ≤ length (questions s (after_replica_event shape world event).front.transcript))
+module _ (shape : Shape) (size : IsClusterSize shape.nodes shape.spares) (state : FirmWorld) (event : QueueEvent) (may : MayReplicas state.world event)
+    (sound : IsSoundWorld shape state.world) (whole : CommitsWhole shape state.world) (told : SessionsAreTold shape state.world)
+    (outstanding : SessionHasOutstanding)
+    (ledger : Ledger) (is : IsLedgerOf shape state ledger) (shown : IsLedgerShown state.world.front.transcript ledger)
+    (fit_turns : AnswersFitTurns (after_replica_event shape state.world event).front.transcript)
+    (all_few : (s : ℕ) → length (answers s (after_replica_event shape state.world event).front.transcript) ≤
+    length (questions s (after_replica_event shape state.world event).front.transcript))
     (Short More : TxnId → ℕ → Type 0) (keeps : (name : TxnId) (p q : ℕ) → p ≤ q → Short name p → More name q)
-    (shorts : (from to : ℕ) (content : Content) (rest : List Content) (name : TxnId) → event ≡ deliver from to true → world.mail from to ≡ content ∷ rest → IsAskOf name content →
-    More name (length (after_replica_event shape world event).front.transcript))
-    (empties : event ≡ quieten → (from to : ℕ) → (from ≡ FRONT) ⊎ (from < shape.nodes) → world.mail from to ≡ [])
-    (so : IsCausedWorld shape Short world) where
+    (shorts : (from to : ℕ) (content : Content) (rest : List Content) (name : TxnId) → event ≡ deliver from to true →
+    state.world.mail from to ≡ content ∷ rest → IsAskOf name content → More name (length (after_replica_event shape state.world event).front.transcript))
+    (empties : event ≡ quieten → (from to : ℕ) → state.world.mail from to ≡ [])
+    (so : IsCausedWorld shape Short state.world) where
+  abbrev world : ReplicaWorld
+  world = state.world
+
   abbrev after : ReplicaWorld
   after = after_replica_event shape world event
 
@@ -236,7 +244,7 @@ module _ (shape : Shape) (size : IsClusterSize shape.nodes shape.spares) (world 
       (past_stays name of was.0, stays_gone shape size world sound whole told name of was.0 was.1 event may)
   gone_after p (is_noted quietens same) name of past =
       let now : IsPast world name = subst (λ list. name.number ≤ length (told_session name.session list).ended) same past in
-      let is_gone = gone_when_quiet shape size world sound whole told name of now (λ from to lives. empties quietens from to lives) in
+      let is_gone = gone_when_quiet shape size world sound whole told name of now (empties quietens) in
       (past_stays name of now, stays_gone shape size world sound whole told name of now is_gone event may)
 
   -- ---- messages
@@ -261,7 +269,7 @@ module _ (shape : Shape) (size : IsClusterSize shape.nodes shape.spares) (world 
   given from to (Ask v txn number table key op) rest false delivers addressed waits =
       subst (λ n. Says Then new (Answer v txn number (answer_to (world.replicas n).part txn (table, key) op))) (sym addressed.0.receiver)
       (stay (Answer v txn number (answer_to (world.replicas v).part txn (table, key) op))
-      (answer_says shape world ledger is shown v addressed.0.node (whole.parts v addressed.0.node) (so.own v) txn number table key op addressed.1
+      (answer_says shape state ledger is shown v addressed.0.node (whole.parts v addressed.0.node) (so.own v) txn number table key op addressed.1
       (All-head (Says Now old) (Ask v txn number table key op) rest (subst (All (Says Now old)) waits (so.says from to)))
       (λ holder of ended opened. gone_not_open shape world holder v addressed.0.node (so.gone ended.at ended.is_quiet holder of ended.past).1 opened) Now))
   given from to content rest mark delivers addressed waits = tt
@@ -334,6 +342,47 @@ module _ (shape : Shape) (size : IsClusterSize shape.nodes shape.spares) (world 
     own = own_for event refl;
     fit = event_fit shape world event so.fit;
   }
+
+-- ---- where the transcript stays
+
+-- a transcript has become no longer
+same_grows : (transcript : List TranscriptEntry) → Grows transcript transcript
+same_grows transcript = record {
+  more = [];
+  is = sym (append-nil transcript);
+  lines = λ name of. begins_itself (lines_in transcript name);
+  kept = λ name of e answered inside has. inside;
+}
+
+-- the world stays, and memory that was short stays so
+pub caused_longer : (shape : Shape) (world : ReplicaWorld) (Short More : TxnId → ℕ → Type 0) →
+    ((name : TxnId) (position : ℕ) → Short name position → More name position) → IsCausedWorld shape Short world → IsCausedWorld shape More world
+caused_longer shape world Short More keeps so =
+    let old : List TranscriptEntry = world.front.transcript in
+    record {
+      replies = λ session position cause h. caused_stays old old (same_grows old) Short More keeps session position cause (so.replies session position cause h);
+      says = λ from to.
+          All-weaker (Says (λ name. Short name (length old)) old) (Says (λ name. More name (length old)) old)
+          (says_stay old old (same_grows old) (λ name. Short name (length old)) (λ name. More name (length old)) (λ name short. keeps name (length old) short))
+          (world.mail from to) (so.says from to);
+      few = so.few;
+      gone = so.gone;
+      own = so.own;
+      fit = so.fit;
+    }
+
+-- another order of what is on its way
+pub reorder_caused : (shape : Shape) (world : ReplicaWorld) (mail : Mail) (Short : TxnId → ℕ → Type 0) → AreReordered world.mail mail →
+    IsCausedWorld shape Short world → IsCausedWorld shape Short (with_order world mail)
+reorder_caused shape world mail Short order so = record {
+  replies = so.replies;
+  says = λ from to.
+      reordered_all world.mail mail order (Says (λ name. Short name (length world.front.transcript)) world.front.transcript) from to (so.says from to);
+  few = so.few;
+  gone = λ p h name of past. let was = so.gone p h name of past in (was.0, reorder_gone shape world mail name order was.1);
+  own = so.own;
+  fit = so.fit;
+}
 
 -- ---- at the start
 

@@ -1,5 +1,5 @@
 -- A transaction that had ended at a quiet moment is gone: at every virtual node nothing of it is on its way, and no log has it open.
-use Rattle.std.proofs.Common.{◌≡◌, ◌≢◌, ℕ, ◌+◌, ◌%◌, ◌<◌, ◌≤◌, Bool, true, false, eqb, ◌&&◌, ◌⊎◌, inl, inr, List, [], ◌∷◌, filter, refl, sym, ap, ◌∙◌, subst, subst₂, arith}
+use Rattle.std.proofs.Common.{◌≡◌, ◌≢◌, ℕ, ◌+◌, ◌%◌, ◌<◌, ◌≤◌, Bool, true, false, eqb, ◌&&◌, ◌⊎◌, inl, inr, List, [], ◌∷◌, length, filter, refl, sym, ap, ◌∙◌, subst, subst₂, arith}
 use Rattle.std.specs.List.{list_any}
 use Rattle.std.proofs.lemmas.Bool.{true≢false, false≢true, cases_eq, cases_Bool, ne_eqb, cond-true, cond-false, and_parts, and_from, leb-true, eq-eqb}
 use Rattle.cl_commit.specs.Life.{Life, to_come, open_as, committed, aborted, IsSoFar, MayStand, IsToCome, CommitsWhole, is_begin_of}
@@ -25,8 +25,10 @@ use Rattle.cl_runs.specs.Queues.{QueueEvent, deliver, take_line, quieten, nothin
 use Rattle.cl_runs.specs.World.{Shape}
 use Rattle.cl_steps.specs.declared.actors.TheConstants.{FRONT}
 use Rattle.cl_steps.specs.declared.steps.Outgoing.{Outgoing}
+use Rattle.cl_system.specs.Firm.{AreReordered, with_order}
 use Rattle.cl_system.specs.Replicas.{ReplicaWorld, Mail, own_primary, nothing_noted, with_mail, with_way, front_acts, after_message, after_first, after_replica_event, MayReplicas}
 use Rattle.cl_system.specs.Roles.{IsOfSession, IsAddressed}
+use Rattle.cl_system.proofs.Reordering.{reordered_filter}
 use Rattle.cl_told.specs.Told.{SessionsAreTold}
 use Rattle.cl_types.proofs.PlacementLaws.{node_count-bounds, node_count-some}
 use Rattle.cl_types.proofs.Transactions.{same_txn-itself, same_txn-true}
@@ -52,6 +54,25 @@ IsGone shape world txn = (v : ℕ) → v < shape.nodes → IsClosed (part_view s
 -- then no log has it open
 pub gone_not_open : (shape : Shape) (world : ReplicaWorld) (txn : TxnId) (v : ℕ) → v < shape.nodes → IsGone shape world txn → is_open (world.replicas v).part.log txn ≡ true → ⊥
 gone_not_open shape world txn v below gone opened = true≢false (sym opened ∙ (is_open-stage (world.replicas v).part.log txn ∙ (gone v below).closed))
+
+-- ---- another order
+
+-- of what passes no message of a queue, none passes after
+still_none : (before after : Mail) → AreReordered before after → (p : Content → Bool) (from to : ℕ) → filter p (before from to) ≡ [] →
+    filter p (after from to) ≡ []
+still_none before after order p from to none =
+    reordered_filter before after order p from to (subst (λ list. length list ≤ 1) (sym none) (omega arith)) ∙ none
+
+-- another order of what is on its way leaves it gone
+pub reorder_gone : (shape : Shape) (world : ReplicaWorld) (mail : Mail) (txn : TxnId) → AreReordered world.mail mail → IsGone shape world txn →
+    IsGone shape (with_order world mail) txn
+reorder_gone shape world mail txn order gone v below =
+    let is = gone v below in
+    record {
+      orders = still_none world.mail mail order (is_order v txn) (home_in shape.nodes txn) v is.orders;
+      reports = still_none world.mail mail order (is_report v txn) v (home_in shape.nodes txn) is.reports;
+      closed = is.closed;
+    }
 
 -- ---- at a quiet moment
 
@@ -84,10 +105,10 @@ module _ (shape : Shape) (size : IsClusterSize shape.nodes shape.spares) (world 
   apart-node : (v : ℕ) → v < shape.nodes → eqb v FRONT ≡ false
   apart-node v below = let n = few in ne_eqb v FRONT (λ e. absurd (omega (arith, e, below, n)))
 
-  module _ (txn : TxnId) (of : IsOfSession txn) (past : IsPast world txn) (empty : (from to : ℕ) → from ≡ FRONT ⊎ (from < shape.nodes) → world.mail from to ≡ []) where
+  module _ (txn : TxnId) (of : IsOfSession txn) (past : IsPast world txn) (empty : (from to : ℕ) → world.mail from to ≡ []) where
     began : IsToCome shape.nodes world txn → ⊥
     began (inl later) = let begun = past_begun shape world sound told txn of past in absurd (omega (arith, later, begun))
-    began (inr coming) = false≢true (ap (list_any (is_begin_of txn)) (sym (empty FRONT (home_in shape.nodes txn) (inl refl))) ∙ coming)
+    began (inr coming) = false≢true (ap (list_any (is_begin_of txn)) (sym (empty FRONT (home_in shape.nodes txn))) ∙ coming)
 
     by_life : (life : Life) → life ≡ (whole.lives txn of).life → (v : ℕ) (standing : Standing) → MayStand life v standing →
         (standing ≡ absent) ⊎ ((b : Bool) × (standing ≡ ending b)) ⊎ (standing ≡ over)
@@ -105,7 +126,7 @@ module _ (shape : Shape) (size : IsClusterSize shape.nodes shape.spares) (world 
     pub gone_when_quiet : IsGone shape world txn
     gone_when_quiet v below =
         let stands = (whole.lives txn of).stands v below in
-        closed_from v txn (part_view shape.nodes world txn v) stands.0 (ap (filter (is_order v txn)) (empty (home_in shape.nodes txn) v (inr (home-below txn)))) stands.1
+        closed_from v txn (part_view shape.nodes world txn v) stands.0 (ap (filter (is_order v txn)) (empty (home_in shape.nodes txn) v)) stands.1
         (by_life (whole.lives txn of).life refl v stands.0 stands.2)
 
   -- ---- a message comes to a replica

@@ -21,7 +21,7 @@ use Rattle.cl_serial.specs.PlainMap.{Operation}
 use Rattle.cl_serial.specs.Serial.{StandsAt, IsIn}
 use Rattle.cl_serial.specs.Transactions.{commands_of}
 use Rattle.cl_served.specs.Served.{IsAsked, IsLedgerShown}
-use Rattle.cl_system.specs.Replicas.{ReplicaWorld}
+use Rattle.cl_system.specs.Firm.{FirmWorld}
 use Rattle.cl_system.specs.Roles.{IsOfSession}
 use Rattle.cl_types.proofs.Places.{same_place-true}
 use Rattle.cl_types.proofs.Transactions.{same_txn-itself}
@@ -71,12 +71,14 @@ found_all P p (x ∷ grants) grant all found = by (λ there. found_all P p grant
     by more true here = let same : x ≡ grant = cc in subst P same (All-head P x grants all)
     by more false there = more there
 
-module _ (shape : Shape) (world : ReplicaWorld) (ledger : Ledger) (is : IsLedgerOf shape world ledger) (shown : IsLedgerShown world.front.transcript ledger) (v : ℕ) (below : v < shape.nodes)
-    (whole : IsWholePart (world.replicas v).part) (own : AreOwn (world.replicas v).part.grants) (txn : TxnId) (number : ℕ) (table key : List ℕ) (op : Op) (placed : v ≡ virtual_node_of key shape.nodes)
-    (asked : IsAskedAt world.front.transcript txn (number - 1) table key op)
-    (unended : (holder : TxnId) → IsOfSession holder → EndedQuietly world.front.transcript holder asked.line → is_open (world.replicas v).part.log holder ≡ true → ⊥) where
+module _ (shape : Shape) (state : FirmWorld) (ledger : Ledger) (is : IsLedgerOf shape state ledger)
+    (shown : IsLedgerShown state.world.front.transcript ledger) (v : ℕ) (below : v < shape.nodes) (whole : IsWholePart (state.world.replicas v).part)
+    (own : AreOwn (state.world.replicas v).part.grants) (txn : TxnId) (number : ℕ) (table key : List ℕ) (op : Op) (placed : v ≡ virtual_node_of key shape.nodes)
+    (asked : IsAskedAt state.world.front.transcript txn (number - 1) table key op)
+    (unended : (holder : TxnId) → IsOfSession holder → EndedQuietly state.world.front.transcript holder asked.line →
+    is_open (state.world.replicas v).part.log holder ≡ true → ⊥) where
   abbrev part : State
-  part = (world.replicas v).part
+  part = (state.world.replicas v).part
 
   abbrev place : Place
   place = (table, key)
@@ -88,14 +90,14 @@ module _ (shape : Shape) (world : ReplicaWorld) (ledger : Ledger) (is : IsLedger
       let log : ledger.logs (ledger.on place) ≡ part.log = ap ledger.logs here ∙ is.logs v below in
       (holds.held, ap (λ (entries : List LogEntry). locks_of_log entries holder place) log ∙ (sym ((is.sound v below).locks holder place) ∙ holds.holds), holds.conflict)
 
-  refused : (holder : TxnId) → first_conflict part.grants txn place (mode_of op) ≡ Some holder → IsRefused world.front.transcript txn holder (number - 1)
+  refused : (holder : TxnId) → first_conflict part.grants txn place (mode_of op) ≡ Some holder → IsRefused state.world.front.transcript txn holder (number - 1)
   refused holder refuses =
       let holds : Holds part.grants txn holder place (mode_of op) = refuser_holds part.grants txn holder place (mode_of op) own refuses in
       let lock = locked holder holds in
       let asks = passing (λ operation. same_place operation.place place && is_held (Some (mode_of operation.op)) lock.0) (ledger.done holder) (holders_asked ledger holder place lock.0 is.ordered lock.1) in
       let parts : (same_place asks.0.place place ≡ true) × (is_held (Some (mode_of asks.0.op)) lock.0 ≡ true) = and_parts _ _ asks.2 in
       let there : asks.0.place ≡ place = same_place-true asks.0.place place parts.0 in
-      let fed : IsAsked world.front.transcript holder asks.0 = shown.asked holder asks.0 holds.session asks.1 in
+      let fed : IsAsked state.world.front.transcript holder asks.0 = shown.asked holder asks.0 holds.session asks.1 in
       let command : fed.exchange.command ≡ Work table key asks.0.op = fed.asks ∙ ap (λ (p : Place). Work p.0 p.1 asks.0.op) there in
       record {
         another = λ same. true≢false (sym (ap (same_txn txn) same ∙ same_txn-itself txn) ∙ holds.another);
@@ -107,18 +109,22 @@ module _ (shape : Shape) (world : ReplicaWorld) (ledger : Ledger) (is : IsLedger
           session = holds.session;
           other = asks.0.op;
           line = fed.exchange.line;
-          asks = (fed.is_in.0, stands_line (commands_of world.front.transcript holder) fed.is_in.0 fed.exchange fed.is_in.1 ∙ ap (λ c. Some (c, fed.exchange.line)) command);
+          asks = (
+            fed.is_in.0,
+            stands_line (commands_of state.world.front.transcript holder) fed.is_in.0 fed.exchange fed.is_in.1
+                ∙ ap (λ c. Some (c, fed.exchange.line)) command,
+          );
           conflicts = conflicting op asks.0.op lock.0 lock.2 parts.1;
-          earlier = line_within world.front.transcript holder fed.exchange fed.is_in;
+          earlier = line_within state.world.front.transcript holder fed.exchange fed.is_in;
         };
         unended = λ ended. unended holder holds.session ended (subst (λ t. is_open part.log t ≡ true) holds.of (found_all (λ grant. is_open part.log grant.txn ≡ true) (is_in_conflict txn place (mode_of op)) part.grants holds.grant whole.held holds.found));
       }
 
-  pub answer_says : (Short : TxnId → Type 0) → Says Short world.front.transcript (Answer v txn number (answer_to part txn place op))
+  pub answer_says : (Short : TxnId → Type 0) → Says Short state.world.front.transcript (Answer v txn number (answer_to part txn place op))
   unfolding answer_to
   answer_says Short = by (refusing part txn place op) refl _
     where
       by : (refuser : Option TxnId) → first_conflict part.grants txn place (mode_of op) ≡ refuser → (reply : Reply) →
-          Says Short world.front.transcript (Answer v txn number (answer_by refuser reply))
+          Says Short state.world.front.transcript (Answer v txn number (answer_by refuser reply))
       by None free reply = tt
       by (Some holder) refuses reply = refused holder refuses

@@ -1,6 +1,5 @@
 -- What the rollback and the End of a transaction make of a ledger.
 use Rattle.std.proofs.Common.{◌≡◌, ℕ, Bool, true, false, ◌||◌, ◌&&◌, List, [], ◌∷◌, ◌++◌, refl, sym, ◌∙◌, ap, subst, inl}
-use Rattle.std.proofs.lemmas.List.{append-nil}
 use Rattle.cl_types.specs.declared.operations.TxnId.{TxnId}
 use Rattle.cl_types.proofs.Transactions.{same_txn-true}
 use Rattle.cl_log.specs.declared.records.LogRec.{LogRec}
@@ -92,7 +91,7 @@ rolled (first ∷ others) ledger v state txn is at ordered may =
 
 -- an abort: the rollback, and the End
 pub follows_aborted : (ledger : Ledger) (v : ℕ) (state : State) (txn : TxnId) → KeepsLog ledger v state → IsOrdered ledger → MayWork ledger v txn →
-    Follows ledger v (after_abort state txn) (others_than txn) no_one [] (finish_steps v state txn false)
+    Follows ledger v (after_abort state txn) (others_than txn) no_one (finish_steps v state txn false)
 unfolding after_abort after_rollback
 follows_aborted ledger v state txn at ordered may =
     let steps : List Step = undo_steps v state txn (rest_to_undo state.log txn) in
@@ -120,6 +119,6 @@ follows_aborted ledger v state txn at ordered may =
     record {
       enabled = on.0;
       reaches = subst (λ (next : Ledger). Reaches ledger next v (after_end now txn false) (others_than txn)) (sym on.1) both;
-      history = ap (λ (next : Ledger). next.history) on.1 ∙ back.history ∙ sym (append-nil ledger.history);
+      history = ap (λ (next : Ledger). next.history) on.1 ∙ back.history;
       done = λ name. inl (ap (λ (next : Ledger). next.done name) on.1 ∙ back.done name);
     }

@@ -138,13 +138,8 @@ changed_from state txn change grows name begins new is =
     inl (old.0, (old.1.0, (old.1.1, tt)))
 
 -- an entry that is left
-pub without_from : (state : ControlState) (txn name : TxnId) (begins : Type 0) (new : Entry) → entry_named name (without txn state.transactions) ≡ Some new →
-    ComesFrom (entry_of state name) (name ≢ txn) begins new
-without_from state txn name begins new is =
-    let left = named_without name txn state.transactions new is in
-    inl (new, (left.0, (same_grows new, left.1)))
-
-left_from : (state : ControlState) (txn name : TxnId) (begins : Type 0) (new : Entry) → entry_named name (without txn state.transactions) ≡ Some new → ComesFrom (entry_of state name) (Unit {0}) begins new
+pub left_from : (state : ControlState) (txn name : TxnId) (begins : Type 0) (new : Entry) → entry_named name (without txn state.transactions) ≡ Some new →
+    ComesFrom (entry_of state name) (Unit {0}) begins new
 left_from state txn name begins new is = kept_from state name begins new (named_without name txn state.transactions new is).0
 
 pub command_from : (state : ControlState) (v : ℕ) (txn : TxnId) (number : ℕ) (what : ClientCommand) (name : TxnId) (new : Entry) → entry_of (after_command state txn number what) name ≡ Some new →

@@ -1,7 +1,8 @@
 -- A step of the front sends the BEGIN of new transactions alone, so who is to come after it was so before.
-use Rattle.std.proofs.Common.{◌≡◌, ◌≢◌, ℕ, ◌+◌, ◌-◌, ◌%◌, ◌<◌, ◌≤◌, nat_lt, eqb, Bool, true, false, ◌||◌, ◌⊎◌, inl, inr, List, [], ◌∷◌, map, filter, length, fold, Result, Ok, Err, All, refl, sym, ◌∙◌, ap, subst, arith}
+use Rattle.std.proofs.Common.{◌≡◌, ◌≢◌, ℕ, ◌+◌, ◌-◌, ◌%◌, ◌<◌, ◌≤◌, nat_lt, eqb, Bool, true, false, ◌||◌, inl, inr, List, [], ◌∷◌, map, filter, length, fold}
+use Rattle.std.proofs.Common.{Result, Ok, Err, All, refl, sym, ◌∙◌, ap, subst, arith}
 use Rattle.std.specs.List.{list_any}
-use Rattle.std.proofs.lemmas.Bool.{eqb-true, eqb-false, leb-true, le-leb, and_from, cond_both, and_parts}
+use Rattle.std.proofs.lemmas.Bool.{eqb-true, eqb-false, leb-true, le-leb, and_from, cond_both, and_parts, or_cases}
 use Rattle.std.proofs.lemmas.List.{get_or-set_same, get_or-set_other}
 use Rattle.std.proofs.lemmas.List.Elements.{All-nil, All-cons, All-head, All-tail, All-append, All-map, All-filter, All-weaker}
 use Rattle.std.proofs.lemmas.List.Folds.{list_any-append}
@@ -176,10 +177,6 @@ from_any p Q (content ∷ contents) each any =
     by_test true passes first more = first passes
     by_test false fails first more = more (ap (λ b. b || list_any p contents) (sym fails) ∙ any)
 
-either_any : (a b : Bool) → (a || b) ≡ true → (a ≡ true) ⊎ (b ≡ true)
-either_any true b is = inl refl
-either_any false b is = inr is
-
 -- who is to come after a step of the front was so before
 pub front_to_come : (nodes : ℕ) (world : ReplicaWorld) (mail : Mail) (state : FrontState) (sends : List Outgoing) (lines : ℕ) → BeginsNew world.front.sessions state.sessions sends →
     ((p : Content → Bool) (h : ℕ) → list_any p (mail FRONT h) ≡ true → list_any p (world.mail FRONT h) ≡ true) → (name : TxnId) → IsOfSession name →
@@ -189,7 +186,8 @@ front_to_come nodes world mail state sends lines begins before name there (inl l
 front_to_come nodes world mail state sends lines begins before name there (inr coming) =
     let h : ℕ = home_in nodes name in
     let P : Content → Type 0 = λ content. is_begin_of name content ≡ true → (session_in world.front.sessions name.session).begun < name.number in
-    elim (either_any (list_any (is_begin_of name) (mail FRONT h)) (list_any (is_begin_of name) (sent_to h sends)) (sym (list_any-append (is_begin_of name) (mail FRONT h) (sent_to h sends)) ∙ coming)) [
+    elim (or_cases (list_any (is_begin_of name) (mail FRONT h)) (list_any (is_begin_of name) (sent_to h sends))
+    (sym (list_any-append (is_begin_of name) (mail FRONT h) (sent_to h sends)) ∙ coming)) [
       | inl old ↦ inr (before (is_begin_of name) h old)
       | inr new ↦ inl (from_any (is_begin_of name) ((session_in world.front.sessions name.session).begun < name.number) (sent_to h sends)
           (each_sent_to P h sends (All-weaker (λ (send : Outgoing). (txn : TxnId) → is_begin_of txn send.payload ≡ true → (session_in world.front.sessions txn.session).begun < txn.number)

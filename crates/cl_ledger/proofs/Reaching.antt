@@ -1,7 +1,6 @@
--- What the steps of a participant, and of a commit, make of a ledger.
-use Rattle.std.proofs.Common.{◌≡◌, ◌≢◌, ℕ, true, false, cond, ◌⊎◌, inl, inr, List, [], ◌∷◌, ◌++◌, Option, Some, None, refl, sym, ◌∙◌, ap}
+-- What the steps of a participant make of a ledger.
+use Rattle.std.proofs.Common.{◌≡◌, ◌≢◌, ℕ, true, false, cond, ◌⊎◌, inl, inr, List, [], ◌∷◌, ◌++◌, Option, Some, None, refl, ◌∙◌, ap}
 use Rattle.std.proofs.lemmas.Bool.{ne_eqb, cond_both}
-use Rattle.std.proofs.lemmas.List.{append-nil}
 use Rattle.cl_types.specs.declared.operations.Op.{Op}
 use Rattle.cl_types.specs.declared.operations.TxnId.{TxnId}
 use Rattle.cl_types.specs.Places.{Place}
@@ -10,13 +9,14 @@ use Rattle.cl_types.proofs.Transactions.{same_txn-true}
 use Rattle.cl_log.specs.LogEntry.{LogEntry}
 use Rattle.cl_log.specs.Open.{has_ended, is_among}
 use Rattle.cl_serial.specs.PlainMap.{Operation}
-use Rattle.cl_order.specs.Ledger.{Ledger, IsOrdered, IsWholeOn, IsWhole}
-use Rattle.cl_order.specs.Steps.{Step, carry_out, prepare as append_prepared, decide as append_decide, join, finish, logs_with, after_step, after_steps, IsEnabled, AreEnabled, MayJoin, MayFinish, IsSpared, operation_now}
+use Rattle.cl_order.specs.Ledger.{Ledger, IsOrdered, IsWholeOn}
+use Rattle.cl_order.specs.Steps.{Step, carry_out, prepare as append_prepared, decide as append_decide, finish, logs_with, after_step, after_steps, IsEnabled}
+use Rattle.cl_order.specs.Steps.{AreEnabled, MayFinish, IsSpared, operation_now}
 use Rattle.cl_order.proofs.LawLemmas.{steps_keep_order}
 use Rattle.cl_part.specs.Calls.{ask_op, prepare, decide, end, refusing, after_op, after_prepare, after_decide, after_end}
 use Rattle.cl_part.specs.Laws.{MayWork, step_asked, steps_of}
 use Rattle.cl_part.specs.State.{State}
-use Rattle.cl_ledger.specs.Ledgers.{commit_steps}
+use Rattle.cl_ledger.specs.Ledgers.{decision_steps}
 use Rattle.cl_ledger.proofs.Keeping.{KeepsLog, calls_keep_log}
 
 -- a ledger has become the next one, and the participant of the virtual node is this one; who is apart is as whole as before
@@ -31,11 +31,11 @@ pub record Reaches (ledger next : Ledger) (v : ℕ) (new : State) (apart : TxnId
 abbrev pub HasDone : (Place → ℕ) → ℕ → Type 0 → List Operation → List Operation → Type 0
 HasDone on v works old new = (new ≡ old) ⊎ (works × ((operation : Operation) × ((new ≡ old ++ operation ∷ []) × (on operation.place ≡ v))))
 
--- steps at a virtual node are enabled; these transactions are apart, these may have done one operation more, and these join the history
-pub record Follows (ledger : Ledger) (v : ℕ) (new : State) (apart works : TxnId → Type 0) (joins : List TxnId) (steps : List Step) : Type 0 where
+-- steps at a virtual node are enabled, and leave the history; these transactions are apart, and these may have done one operation more
+pub record Follows (ledger : Ledger) (v : ℕ) (new : State) (apart works : TxnId → Type 0) (steps : List Step) : Type 0 where
   pub enabled : AreEnabled ledger steps
   pub reaches : Reaches ledger (after_steps ledger steps) v new apart
-  pub history : (after_steps ledger steps).history ≡ ledger.history ++ joins
+  pub history : (after_steps ledger steps).history ≡ ledger.history
   pub done : (txn : TxnId) → HasDone ledger.on v (works txn) (ledger.done txn) ((after_steps ledger steps).done txn)
 
 -- all transactions
@@ -55,11 +55,11 @@ pub logs_with-elsewhere : (logs : ℕ → List LogEntry) (v : ℕ) (log : List L
 logs_with-elsewhere logs v log u apart = ap (λ b. cond b log (logs u)) (ne_eqb u v apart)
 
 -- nothing is done
-pub follows_idle : (ledger : Ledger) (v : ℕ) (state : State) → KeepsLog ledger v state → IsOrdered ledger → Follows ledger v state anyone no_one [] []
+pub follows_idle : (ledger : Ledger) (v : ℕ) (state : State) → KeepsLog ledger v state → IsOrdered ledger → Follows ledger v state anyone no_one []
 follows_idle ledger v state at ordered = record {
   enabled = tt;
   reaches = record { on = λ place. refl; at = at; elsewhere = λ u apart. refl; ordered = ordered; whole = λ txn u any is. is };
-  history = sym (append-nil ledger.history);
+  history = refl;
   done = λ txn. inl refl;
 }
 
@@ -76,60 +76,52 @@ reach_step ledger v new step apart ordered enabled at on elsewhere spared =
 module _ (ledger : Ledger) (v : ℕ) (state : State) (at : KeepsLog ledger v state) (ordered : IsOrdered ledger) where
   -- it is done, or refused
   by_refusal : (txn : TxnId) (place : Place) (op : Op) (new : State) (refused : Option TxnId) → ledger.on place ≡ v → AreEnabled ledger (step_asked refused (carry_out txn place op)) →
-      KeepsLog (after_steps ledger (step_asked refused (carry_out txn place op))) v new → Follows ledger v new anyone (λ other. other ≡ txn) [] (step_asked refused (carry_out txn place op))
+      KeepsLog (after_steps ledger (step_asked refused (carry_out txn place op))) v new →
+      Follows ledger v new anyone (λ other. other ≡ txn) (step_asked refused (carry_out txn place op))
   by_refusal txn place op new None here enabled after = record {
     enabled = enabled;
     reaches = reach_step ledger v new (carry_out txn place op) anyone ordered enabled.0 after (λ p. refl)
         (λ u apart. logs_with-elsewhere ledger.logs (ledger.on place) _ u (λ same. apart (same ∙ here))) (λ other u any. tt);
-    history = sym (append-nil ledger.history);
+    history = refl;
     done = λ other. cond_both (same_txn other txn) (ledger.done other ++ operation_now ledger place op ∷ []) (ledger.done other) (HasDone ledger.on v (other ≡ txn) (ledger.done other))
         (λ own. inr (same_txn-true other txn own, (operation_now ledger place op, (refl, here)))) (λ another. inl refl);
   }
   by_refusal txn place op new (Some holder) here enabled after = record {
     enabled = tt;
     reaches = record { on = λ p. refl; at = after; elsewhere = λ u apart. refl; ordered = ordered; whole = λ other u any is. is };
-    history = sym (append-nil ledger.history);
+    history = refl;
     done = λ other. inl refl;
   }
 
   pub follows_asked : (txn : TxnId) (place : Place) (op : Op) → ledger.on place ≡ v → MayWork ledger v txn →
-      Follows ledger v (after_op state txn place op) anyone (λ other. other ≡ txn) [] (steps_of v state (ask_op txn place op))
+      Follows ledger v (after_op state txn place op) anyone (λ other. other ≡ txn) (steps_of v state (ask_op txn place op))
   follows_asked txn place op here may =
       let follows = calls_keep_log ledger v state (ask_op txn place op) at (here, may) in
       by_refusal txn place op (after_op state txn place op) (refusing state txn place op) here follows.enabled follows.after
 
   -- ---- a vote
 
-  pub follows_prepared : (txn : TxnId) → has_ended (ledger.logs v) txn ≡ false → Follows ledger v (after_prepare state txn) anyone no_one [] (steps_of v state (prepare txn))
+  pub follows_prepared : (txn : TxnId) → has_ended (ledger.logs v) txn ≡ false →
+      Follows ledger v (after_prepare state txn) anyone no_one (steps_of v state (prepare txn))
   follows_prepared txn unended =
       let follows = calls_keep_log ledger v state (prepare txn) at unended in
       record {
         enabled = follows.enabled;
         reaches = reach_step ledger v (after_prepare state txn) (append_prepared v txn) anyone ordered unended follows.after (λ p. refl) (logs_with-elsewhere ledger.logs v _) (λ other u any. tt);
-        history = sym (append-nil ledger.history);
+        history = refl;
         done = λ other. inl refl;
       }
 
-  -- ---- a commit
+  -- ---- a decision
 
-  -- the Decide is appended, and the transaction joins the history
-  pub follows_committed : (txn : TxnId) → is_among txn ledger.history ≡ false → IsWhole ledger txn → Follows ledger v (after_decide state txn) (others_than txn) no_one (txn ∷ []) (commit_steps v txn)
-  follows_committed txn outside whole =
+  -- the Decide is appended
+  pub follows_decided : (txn : TxnId) → Follows ledger v (after_decide state txn) anyone no_one (decision_steps v txn)
+  follows_decided txn =
       let follows = calls_keep_log ledger v state (decide txn) at tt in
-      let one : Ledger = after_step ledger (append_decide v txn) in
-      let stays = steps_keep_order ledger (append_decide v txn) ordered tt in
-      let whole_one : IsWhole one txn = λ k d below. stays.whole txn _ tt (whole k d below) in
-      let may : MayJoin one txn = record { outside = outside; whole = whole_one } in
-      let joins = steps_keep_order one (join txn) stays.ordered may in
       record {
-        enabled = (tt, (may, tt));
-        reaches = record {
-          on = λ p. refl;
-          at = record { sound = follows.after.sound; log = follows.after.log };
-          elsewhere = logs_with-elsewhere ledger.logs v _;
-          ordered = joins.ordered;
-          whole = λ other u apart is. joins.whole other u apart (stays.whole other u tt is);
-        };
+        enabled = follows.enabled;
+        reaches = reach_step ledger v (after_decide state txn) (append_decide v txn) anyone ordered tt follows.after (λ p. refl)
+            (logs_with-elsewhere ledger.logs v _) (λ other u any. tt);
         history = refl;
         done = λ other. inl refl;
       }
@@ -137,7 +129,7 @@ module _ (ledger : Ledger) (v : ℕ) (state : State) (at : KeepsLog ledger v sta
   -- ---- an end with commit
 
   pub follows_finished : (txn : TxnId) → is_among txn ledger.history ≡ true → has_ended (ledger.logs v) txn ≡ false →
-      Follows ledger v (after_end state txn true) (others_than txn) no_one [] (finish v txn true ∷ [])
+      Follows ledger v (after_end state txn true) (others_than txn) no_one (finish v txn true ∷ [])
   follows_finished txn member unended =
       let may : MayFinish ledger v txn true = record { member = member; unended = unended; undone = λ false_is. absurd (let e : true ≡ false = false_is in cc) } in
       let follows = calls_keep_log ledger v state (end txn true) at may in
@@ -145,6 +137,6 @@ module _ (ledger : Ledger) (v : ℕ) (state : State) (at : KeepsLog ledger v sta
         enabled = follows.enabled;
         reaches = reach_step ledger v (after_end state txn true) (finish v txn true) (others_than txn) ordered follows.enabled.0 follows.after (λ p. refl) (logs_with-elsewhere ledger.logs v _)
             (λ other u apart here. apart);
-        history = sym (append-nil ledger.history);
+        history = refl;
         done = λ other. inl refl;
       }

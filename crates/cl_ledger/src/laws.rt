@@ -1,5 +1,5 @@
 //! What holds of the ledger of the system. Each function does nothing: its contract is a law of the definitions.
-ghost use Rattle.cl_ledger.specs.Laws.{LedgerAtFirst, EventsAreSteps, LogsSettle, RunsKeepOneOrder};
+ghost use Rattle.cl_ledger.specs.Laws.{LedgerAtFirst, EventsAreSteps, LogsSettle, FirmRunsKeepOneOrder};
 
 /// Each event is steps of a ledger that are enabled, so the ledger stays in one serial order. An open transaction is whole
 /// at each of its participants, so whoever joins the history is whole. The log of each virtual node settles to the map of
@@ -10,8 +10,8 @@ pub fn events_keep_one_order()
     ensures settle { LogsSettle }
 {}
 
-/// After every run, also where quiet moments come at any time, commits are whole, and the system has a ledger in one serial
+/// After every firm run commits are whole, and the system has a ledger in one serial
 /// order: that of its history.
-pub fn runs_keep_one_order()
-    ensures { RunsKeepOneOrder }
+pub fn firm_runs_keep_one_order()
+    ensures { FirmRunsKeepOneOrder }
 {}

@@ -4,4 +4,4 @@
 
 mod laws;
 
-pub use laws::{events_keep_one_order, runs_keep_one_order};
+pub use laws::{events_keep_one_order, firm_runs_keep_one_order};

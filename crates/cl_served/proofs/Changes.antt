@@ -21,6 +21,7 @@ use Rattle.cl_runs.specs.World.{Shape, with_firm}
 use Rattle.cl_serial.specs.Transcript.{TranscriptEntry, fed, written}
 use Rattle.cl_steps.specs.declared.actors.TheConstants.{FRONT}
 use Rattle.cl_steps.specs.declared.steps.Outgoing.{Outgoing}
+use Rattle.cl_system.specs.Firm.{FirmWorld, TellsFirm, TellsOnceFirm}
 use Rattle.cl_system.specs.Replicas.{ReplicaWorld, own_primary, nothing_noted, with_way, front_acts, replica_acts, after_message, after_first, after_replica_event, MayReplicas}
 use Rattle.cl_system.specs.Roles.{IsOfSession, IsAddressed}
 use Rattle.cl_told.proofs.Feeding.{IsToldIn}
@@ -38,24 +39,24 @@ use Rattle.cl_wire.specs.Message.{Content, Command, Outcome, Ask, Answer, Prepar
 use Rattle.cl_served.proofs.Fronts.{FrontHears, line_keeps, quiet_keeps, own_hears, others_keep, heard_after}
 
 -- what a session is told
-pub data Tells (shape : Shape) (world : ReplicaWorld) (after : List TranscriptEntry) (s : ℕ) : Type 0 where
+pub data Tells (shape : Shape) (state : FirmWorld) (after : List TranscriptEntry) (s : ℕ) : Type 0 where
   -- nothing of its transactions
-  tells_same : told_session s after ≡ told_session s world.front.transcript → Tells shape world after s
-  -- a true outcome of its outstanding command
+  tells_same : told_session s after ≡ told_session s state.world.front.transcript → Tells shape state after s
+  -- a true outcome of its outstanding command, COMMITTED only of a firm transaction
   tells_outcome : (txn : TxnId) (number : ℕ) (outcome : CommandOutcome) (sends : List Outgoing) → IsOfSession txn → txn.session ≡ s →
-      IsTrueOutcome shape world (Outcome txn number outcome) →
-      FrontHears txn outcome world.front.transcript after sends → Tells shape world after s
+      IsTrueOutcome shape state.world (Outcome txn number outcome) → TellsFirm state.firm (Outcome txn number outcome) →
+      FrontHears txn outcome state.world.front.transcript after sends → Tells shape state after s
 
--- the history has grown by one at most
+-- what was decided has grown by one at most
 pub data Grown (before after : List TxnId) : Type 0 where
   grown_same : after ≡ before → Grown before after
   grown_by : (txn : TxnId) → IsOfSession txn → is_member txn before ≡ false → after ≡ before ++ txn ∷ [] → Grown before after
 
--- either the history or the transcript changes
-pub data Change (shape : Shape) (world after : ReplicaWorld) : Type 0 where
-  history_changes : after.front.transcript ≡ world.front.transcript → Grown world.history after.history → Change shape world after
-  transcript_changes : after.history ≡ world.history → length world.front.transcript ≤ length after.front.transcript →
-      ((txn : TxnId) → IsOfSession txn → Tells shape world after.front.transcript txn.session) → Change shape world after
+-- either what was decided or the transcript changes
+pub data Change (shape : Shape) (state : FirmWorld) (after : ReplicaWorld) : Type 0 where
+  history_changes : after.front.transcript ≡ state.world.front.transcript → Grown state.world.history after.history → Change shape state after
+  transcript_changes : after.history ≡ state.world.history → length state.world.front.transcript ≤ length after.front.transcript →
+      ((txn : TxnId) → IsOfSession txn → Tells shape state after.front.transcript txn.session) → Change shape state after
 
 -- ---- what a replica makes firm
 
@@ -109,13 +110,16 @@ grown_one history firm txn of (inr one) = subst (λ list. Grown history (with_fi
 
 -- ---- an event
 
-module _ (shape : Shape) (counted : IsNodeCount shape.nodes) (world : ReplicaWorld) (sound : IsSoundWorld shape world) (tells : SessionsAreTold shape world)
-    (whole : CommitsWhole shape world) where
+module _ (shape : Shape) (counted : IsNodeCount shape.nodes) (state : FirmWorld) (sound : IsSoundWorld shape state.world)
+    (tells : SessionsAreTold shape state.world) (whole : CommitsWhole shape state.world) where
+  abbrev world : ReplicaWorld
+  world = state.world
+
   abbrev popped : ℕ → ℕ → List Content → ReplicaWorld
   popped from to rest = record world { mail = with_way world.mail from to rest }
 
   replica_change : (from to : ℕ) (content : Content) (rest : List Content) (mark : Bool) → (to ≡ FRONT → ⊥) → IsAddressed shape.nodes from to content →
-      Change shape world (replica_acts (popped from to rest) to (lone_step own_primary (world.replicas to) from content mark))
+      Change shape state (replica_acts (popped from to rest) to (lone_step own_primary (world.replicas to) from content mark))
   replica_change from to (Command v txn number what) rest mark apart addressed = history_changes refl
       (grown_one world.history _ txn addressed.session (command_firm (world.replicas to) from v txn mark number what))
   replica_change from to (Outcome txn number outcome) rest mark apart addressed = absurd (apart addressed.receiver)
@@ -141,11 +145,12 @@ module _ (shape : Shape) (counted : IsNodeCount shape.nodes) (world : ReplicaWor
   longer : (more : List TranscriptEntry) → length world.front.transcript ≤ length (world.front.transcript ++ more)
   longer more = let total = length-append world.front.transcript more in omega (arith, total)
 
-  outcome_change : (txn : TxnId) (number : ℕ) (outcome : CommandOutcome) (rest : List Content) (mark : Bool) → IsOfSession txn →
+  outcome_change : (txn : TxnId) (number : ℕ) (outcome : CommandOutcome) (rest : List Content) (mark : Bool) →
+      TellsFirm state.firm (Outcome txn number outcome) → IsOfSession txn →
       world.mail (home_in shape.nodes txn) FRONT ≡ Outcome txn number outcome ∷ rest →
-      Change shape world (front_acts (popped (home_in shape.nodes txn) FRONT rest)
+      Change shape state (front_acts (popped (home_in shape.nodes txn) FRONT rest)
       (delivered_front (nothing_noted shape) world.front (home_in shape.nodes txn) (Outcome txn number outcome) mark))
-  outcome_change txn number outcome rest mark of here =
+  outcome_change txn number outcome rest mark firm of here =
       let h : ℕ = home_in shape.nodes txn in
       let at : IsAtSome shape.nodes world txn.session = stage_of shape counted world sound txn of in
       let true_is : IsTrueOutcome shape world (Outcome txn number outcome)
@@ -154,33 +159,33 @@ module _ (shape : Shape) (counted : IsNodeCount shape.nodes) (world : ReplicaWor
       let told : IsToldIn shape world txn.session = view_from shape world txn.session (told_in txn of) in
       let hears = own_hears shape counted world sound.sessions txn of number outcome rest here at told (sym told.shows.left_is) (sym told.shows.told_is) in
       let after : List TranscriptEntry = heard_after shape counted world sound.sessions txn of number outcome rest here in
-      subst (λ step. Change shape world (front_acts (popped h FRONT rest) step))
+      subst (λ step. Change shape state (front_acts (popped h FRONT rest) step))
       (sym (heard_step shape counted world sound.sessions txn of number outcome rest here h mark at))
       (transcript_changes refl (longer _) (λ name own. elim (cases_eq name.session txn.session) [
-        | inl same ↦ tells_outcome txn number outcome _ of (sym same) true_is hears
+        | inl same ↦ tells_outcome txn number outcome _ of (sym same) true_is firm hears
         | inr other ↦ tells_same (others_keep shape counted world sound.sessions txn of number outcome rest here name.session (λ same. other (sym same))
             (shown name own)).told_is
       ]))
 
-  front_change : (from : ℕ) (content : Content) (rest : List Content) (mark : Bool) → IsAddressed shape.nodes from FRONT content →
-      world.mail from FRONT ≡ content ∷ rest →
-      Change shape world (front_acts (popped from FRONT rest) (delivered_front (nothing_noted shape) world.front from content mark))
-  front_change from (Outcome txn number outcome) rest mark addressed here =
+  front_change : (from : ℕ) (content : Content) (rest : List Content) (mark : Bool) → TellsFirm state.firm content →
+      IsAddressed shape.nodes from FRONT content → world.mail from FRONT ≡ content ∷ rest →
+      Change shape state (front_acts (popped from FRONT rest) (delivered_front (nothing_noted shape) world.front from content mark))
+  front_change from (Outcome txn number outcome) rest mark firm addressed here =
       subst (λ giver. world.mail giver FRONT ≡ Outcome txn number outcome ∷ rest →
-      Change shape world (front_acts (popped giver FRONT rest) (delivered_front (nothing_noted shape) world.front giver (Outcome txn number outcome) mark)))
-      (sym addressed.giver) (outcome_change txn number outcome rest mark addressed.session) here
-  front_change from content rest mark addressed here = transcript_changes refl (omega arith) (λ name own. tells_same refl)
+      Change shape state (front_acts (popped giver FRONT rest) (delivered_front (nothing_noted shape) world.front giver (Outcome txn number outcome) mark)))
+      (sym addressed.giver) (outcome_change txn number outcome rest mark firm addressed.session) here
+  front_change from content rest mark firm addressed here = transcript_changes refl (omega arith) (λ name own. tells_same refl)
 
-  message_change : (from to : ℕ) (content : Content) (rest : List Content) (mark : Bool) → IsAddressed shape.nodes from to content →
-      world.mail from to ≡ content ∷ rest →
-      Change shape world (after_message shape (popped from to rest) from to content mark)
-  message_change from to content rest mark addressed here =
+  message_change : (from to : ℕ) (content : Content) (rest : List Content) (mark : Bool) → TellsFirm state.firm content →
+      IsAddressed shape.nodes from to content → world.mail from to ≡ content ∷ rest →
+      Change shape state (after_message shape (popped from to rest) from to content mark)
+  message_change from to content rest mark firm addressed here =
       elim (eqb to FRONT) as (λ b. (eqb to FRONT ≡ b) →
-      Change shape world (cond b (front_acts (popped from to rest) (delivered_front (nothing_noted shape) world.front from content mark))
+      Change shape state (cond b (front_acts (popped from to rest) (delivered_front (nothing_noted shape) world.front from content mark))
       (replica_acts (popped from to rest) to (lone_step own_primary (world.replicas to) from content mark)))) [
         | true ↦ λ at_front. subst (λ t. IsAddressed shape.nodes from t content → world.mail from t ≡ content ∷ rest →
-            Change shape world (front_acts (popped from t rest) (delivered_front (nothing_noted shape) world.front from content mark)))
-            (sym (eqb-true to FRONT at_front)) (front_change from content rest mark) addressed here
+            Change shape state (front_acts (popped from t rest) (delivered_front (nothing_noted shape) world.front from content mark)))
+            (sym (eqb-true to FRONT at_front)) (front_change from content rest mark firm) addressed here
         | false ↦ λ elsewhere. replica_change from to content rest mark (eqb-false to FRONT elsewhere) addressed
       ] refl
 
@@ -202,15 +207,15 @@ module _ (shape : Shape) (counted : IsNodeCount shape.nodes) (world : ReplicaWor
           let second = length-append (world.front.transcript ++ fed number text ∷ []) (written (BadLine number fault) ∷ []) in
           omega (arith, first, second)
 
-  pub event_change : (event : QueueEvent) → MayReplicas world event → Change shape world (after_replica_event shape world event)
+  pub event_change : (event : QueueEvent) → MayReplicas world event → TellsOnceFirm state event → Change shape state (after_replica_event shape world event)
   unfolding after_replica_event
-  event_change (deliver from to mark) (content, rest, here) =
-      subst (λ list. Change shape world (after_first shape world from to mark list)) (sym here)
-      (message_change from to content rest mark
+  event_change (deliver from to mark) (content, rest, here) once =
+      subst (λ list. Change shape state (after_first shape world from to mark list)) (sym here)
+      (message_change from to content rest mark (once content rest here)
       (All-head (IsAddressed shape.nodes from to) content rest (subst (All (IsAddressed shape.nodes from to)) here (sound.places.messages from to))) here)
-  event_change (take_line number text said) may = transcript_changes refl (fed_longer number text said) (λ name own.
+  event_change (take_line number text said) may once = transcript_changes refl (fed_longer number text said) (λ name own.
       let told : IsToldIn shape world name.session = view_from shape world name.session (told_in name own) in
       tells_same (line_keeps shape world name.session (stage_of shape counted world sound name own) told (shown name own) (sym told.shows.left_is)
       (sym told.shows.told_is) number text said).told_is)
-  event_change quieten may = transcript_changes refl (longer _) (λ name own. tells_same (quiet_keeps name.session world.front (shown name own)).told_is)
-  event_change nothing may = transcript_changes refl (omega arith) (λ name own. tells_same refl)
+  event_change quieten may once = transcript_changes refl (longer _) (λ name own. tells_same (quiet_keeps name.session world.front (shown name own)).told_is)
+  event_change nothing may once = transcript_changes refl (omega arith) (λ name own. tells_same refl)

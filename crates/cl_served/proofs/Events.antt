@@ -12,7 +12,7 @@ use Rattle.cl_exchange.proofs.Heard.{heard_step}
 use Rattle.cl_exchange.specs.Laws.{IsSoundWorld}
 use Rattle.cl_exchange.specs.Stage.{asking, view_of, is_of_session}
 use Rattle.cl_front.specs.Front.{stepped, fed_front, delivered_front, quiet_front}
-use Rattle.cl_ledger.specs.Ledgers.{IsLedgerOf, commit_steps, finish_steps, undo_steps, message_steps, first_steps, event_steps}
+use Rattle.cl_ledger.specs.Ledgers.{IsLedgerOf, decision_steps, finish_steps, undo_steps, message_steps, first_steps, event_steps}
 use Rattle.cl_log.specs.LogEntry.{LogEntry}
 use Rattle.cl_log.specs.Open.{is_open}
 use Rattle.cl_log.specs.Rest.{rest_to_undo}
@@ -26,9 +26,12 @@ use Rattle.cl_part.specs.State.{State}
 use Rattle.cl_roster.specs.Roster.{IsClusterSize}
 use Rattle.cl_runs.specs.Queues.{QueueEvent, deliver, take_line, quieten, nothing}
 use Rattle.cl_runs.specs.World.{Shape}
+use Rattle.cl_serial.specs.PlainMap.{Operation}
 use Rattle.cl_serial.specs.Transcript.{TranscriptEntry}
 use Rattle.cl_steps.specs.declared.actors.TheConstants.{FRONT}
 use Rattle.cl_steps.specs.declared.steps.Outgoing.{Outgoing}
+use Rattle.cl_system.proofs.Reordering.{reordered_all}
+use Rattle.cl_system.specs.Firm.{FirmWorld, AreReordered, with_order}
 use Rattle.cl_system.specs.Replicas.{ReplicaWorld, Mail, own_primary, nothing_noted, with_way, front_acts, replica_acts, after_message, after_first, after_replica_event, first_replica_world, MayReplicas}
 use Rattle.cl_system.specs.Roles.{IsOfSession, IsAddressed}
 use Rattle.cl_told.proofs.Feeding.{IsToldIn}
@@ -73,11 +76,11 @@ finish_leaves v part txn false ledger name = leaves_append (undo_steps v part tx
 
 module _ (v : ℕ) (replica : ReplicaState) (w : ℕ) (txn : TxnId) (mark : Bool) where
   command_leaves : (number : ℕ) (what : ClientCommand) → LeavesDone (message_steps v replica (Command w txn number what) mark)
-  command_leaves number what = cond_both (has_decide (command_acts replica.control txn number what)) (commit_steps v txn) [] LeavesDone
+  command_leaves number what = cond_both (has_decide (command_acts replica.control txn number what)) (decision_steps v txn) [] LeavesDone
       (λ decides ledger name. refl) (λ goes ledger name. refl)
 
   vote_leaves : LeavesDone (message_steps v replica (Vote w txn) mark)
-  vote_leaves = cond_both (counts_vote replica.control w txn && is_last_vote replica.control w txn) (commit_steps v txn) [] LeavesDone
+  vote_leaves = cond_both (counts_vote replica.control w txn && is_last_vote replica.control w txn) (decision_steps v txn) [] LeavesDone
       (λ last ledger name. refl) (λ more ledger name. refl)
 
   end_leaves : (commit : Bool) → LeavesDone (message_steps v replica (Finish w txn commit) mark)
@@ -86,9 +89,12 @@ module _ (v : ℕ) (replica : ReplicaState) (w : ℕ) (txn : TxnId) (mark : Bool
 
 -- ---- an event
 
-module _ (shape : Shape) (size : IsClusterSize shape.nodes shape.spares) (world : ReplicaWorld) (ledger : Ledger) (sound : IsSoundWorld shape world)
-    (tells : SessionsAreTold shape world) (whole : CommitsWhole shape world)
-    (is : IsLedgerOf shape world ledger) (name : TxnId) (own : IsOfSession name) (served : IsServed world ledger.done name) where
+module _ (shape : Shape) (size : IsClusterSize shape.nodes shape.spares) (state : FirmWorld) (ledger : Ledger) (sound : IsSoundWorld shape state.world)
+    (tells : SessionsAreTold shape state.world) (whole : CommitsWhole shape state.world)
+    (is : IsLedgerOf shape state ledger) (name : TxnId) (own : IsOfSession name) (served : IsServed state.world ledger.done name) where
+  abbrev world : ReplicaWorld
+  world = state.world
+
   counted : IsNodeCount shape.nodes
   counted = size.counted
 
@@ -169,7 +175,8 @@ module _ (shape : Shape) (size : IsClusterSize shape.nodes shape.spares) (world 
   to_replica from to (Ask v txn number table key op) rest mark apart addressed at =
       subst₂ (λ giver receiver. world.mail giver receiver ≡ Ask v txn number table key op ∷ rest →
       Serves giver receiver (Ask v txn number table key op) rest mark) (sym addressed.0.giver) (sym addressed.0.receiver)
-      (λ here. ask_served shape counted world ledger is txn v addressed.0.node number table key op rest here sound.places.messages
+      (λ here. ask_served shape counted world ledger txn v addressed.0.node
+      (record { sound = is.sound v addressed.0.node; log = is.logs v addressed.0.node }) number table key op rest here sound.places.messages
       (is.on (table, key) ∙ sym addressed.1)
       (whole.lives txn addressed.0.session) (at_stage txn addressed.0.session) (told_in txn addressed.0.session) name served mark) at
   to_replica from to (Prepare v txn) rest mark apart addressed here =
@@ -280,6 +287,17 @@ module _ (shape : Shape) (size : IsClusterSize shape.nodes shape.spares) (world 
   event_served quieten may = served_unsent world.front.transcript (quiet_front world.front).transcript [] name world.mail (ledger.done name)
       (quiet_keeps name.session world.front shown) served
   event_served nothing may = served
+
+-- another order of what is on its way leaves what its messages say
+pub reorder_served : (world : ReplicaWorld) (mail : Mail) (done : TxnId → List Operation) (name : TxnId) → AreReordered world.mail mail →
+    IsServed world done name → IsServed (with_order world mail) done name
+reorder_served world mail done name are served = record {
+  extra = served.extra;
+  done_is = served.done_is;
+  is_extra = served.is_extra;
+  messages = λ from to. reordered_all world.mail mail are (ServesMessage (pending name.session world.front.transcript) served.extra name) from to
+      (served.messages from to);
+}
 
 -- at the start nothing is done
 pub served_first : (shape : Shape) (on : _) (name : TxnId) → IsServed (first_replica_world shape) (new_ledger on).done name

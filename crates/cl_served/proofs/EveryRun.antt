@@ -1,54 +1,41 @@
--- The laws: they hold of every run, where those of its transcript do.
-use Rattle.std.proofs.Common.{◌≡◌, List, sym, ap, ◌∙◌, subst, subst₂}
-use Rattle.cl_exchange.proofs.Runs.{runs_are_replica_runs}
-use Rattle.cl_ledger.proofs.Runs.{runs_keep_one_order}
-use Rattle.cl_ledger.specs.Laws.{events_in}
+-- The laws: they hold of every firm run, where those of its transcript do.
+use Rattle.std.proofs.Common.{◌≡◌, List, sym, subst}
+use Rattle.cl_commit.proofs.Reordering.{reorder_keeps_whole}
+use Rattle.cl_exchange.proofs.Reordering.{reorder_keeps_sound}
+use Rattle.cl_ledger.proofs.Runs.{firm_runs_keep_one_order}
 use Rattle.cl_ledger.specs.Ledgers.{Ledgered, both_after}
 use Rattle.cl_roster.specs.Roster.{IsClusterSize}
-use Rattle.cl_runs.proofs.Runs.{watching_leaves_world}
-use Rattle.cl_runs.specs.World.{Shape, Run, World, world_after, IsWideRun}
+use Rattle.cl_runs.specs.World.{Shape}
 use Rattle.cl_serial.specs.Serial.{Serializable}
-use Rattle.cl_serial.specs.Transcript.{TranscriptEntry}
-use Rattle.cl_shown.specs.Laws.{SessionHasOutstanding, RunsAreWellShown}
-use Rattle.cl_shown.specs.Shown.{IsWellShown, transcript_after}
-use Rattle.cl_steps.specs.declared.actors.TheConstants.{FRONT}
-use Rattle.cl_system.specs.Replicas.{ReplicaWorld}
-use Rattle.cl_system.specs.System.{Core, system, transcript_in}
-use Rattle.cl_served.specs.Laws.{LedgersAreShown, RunsAreSerializable}
+use Rattle.cl_shown.specs.Laws.{SessionHasOutstanding, FirmRunsAreWellShown}
+use Rattle.cl_shown.specs.Shown.{IsWellShown}
+use Rattle.cl_system.specs.Firm.{FirmWorld, FirmEvent, firm_world_after, IsFirmRun}
+use Rattle.cl_served.specs.Laws.{LedgersAreShown, FirmRunsAreSerializable}
 use Rattle.cl_served.specs.Served.{IsLedgerShown}
 use Rattle.cl_served.proofs.Ledgers.{ledger_shown}
 use Rattle.cl_served.proofs.Runs.{runs_are_served}
 use Rattle.cl_served.proofs.Serial.{serializable}
 
-module _ (shape : Shape) (run : Run) (size : IsClusterSize shape.nodes shape.spares) (wide : IsWideRun (system shape.nodes) shape run) where
+module _ (shape : Shape) (events : List FirmEvent) (size : IsClusterSize shape.nodes shape.spares) (may : IsFirmRun shape events) where
   abbrev both : Ledgered
-  both = both_after shape (events_in shape run)
+  both = both_after shape events
 
-  -- the transcript of the run is that of its system, and so is its history
-  same_transcript : transcript_after shape run ≡ both.world.front.transcript
-  same_transcript =
-      ap (λ (world : World Core). transcript_in (world.actors FRONT).core) (sym (watching_leaves_world (system shape.nodes) shape run))
-      ∙ (ap transcript_in (runs_are_replica_runs shape run size wide).alike.front
-      ∙ ap (λ (world : ReplicaWorld). world.front.transcript) (sym (runs_keep_one_order shape run size wide).beside))
+  -- the ledger grows beside the system
+  beside : both.state ≡ firm_world_after shape events
+  beside = (firm_runs_keep_one_order reorder_keeps_sound reorder_keeps_whole shape events size may).beside
 
-  same_history : (world_after (system shape.nodes) shape run).history ≡ both.world.history
-  same_history =
-      ap (λ (world : World Core). world.history) (sym (watching_leaves_world (system shape.nodes) shape run))
-      ∙ ((runs_are_replica_runs shape run size wide).alike.history
-      ∙ ap (λ (world : ReplicaWorld). world.history) (sym (runs_keep_one_order shape run size wide).beside))
+  -- its transcript is that of the run
+  shown_so : FirmRunsAreWellShown → IsWellShown both.state.world.front.transcript
+  shown_so well = subst (λ (state : FirmWorld). IsWellShown state.world.front.transcript) (sym beside) (well shape events size may)
 
-  shown_so : RunsAreWellShown → IsWellShown both.world.front.transcript
-  shown_so well = subst IsWellShown same_transcript (well shape run size wide)
+-- the transcript of every firm run shows what its ledger has done
+pub ledgers_are_shown : SessionHasOutstanding → FirmRunsAreWellShown → LedgersAreShown
+ledgers_are_shown law well shape events size may =
+    subst (λ (state : FirmWorld). IsLedgerShown state.world.front.transcript (both_after shape events).ledger) (beside shape events size may)
+    (ledger_shown shape size (both_after shape events) (runs_are_served shape events size may) law (shown_so shape events size may well))
 
--- the transcript of every run shows what its ledger has done
-pub ledgers_are_shown : SessionHasOutstanding → RunsAreWellShown → LedgersAreShown
-ledgers_are_shown law well shape run size wide =
-    subst (λ (transcript : List TranscriptEntry). IsLedgerShown transcript (both_after shape (events_in shape run)).ledger)
-    (sym (same_transcript shape run size wide))
-    (ledger_shown shape size (both_after shape (events_in shape run)) (runs_are_served shape run size wide) law (shown_so shape run size wide well))
-
--- the history of every run explains its transcript
-pub runs_are_serializable : SessionHasOutstanding → RunsAreWellShown → RunsAreSerializable
-runs_are_serializable law well shape run size wide =
-    subst₂ Serializable (sym (same_transcript shape run size wide)) (sym (same_history shape run size wide))
-    (serializable shape size (both_after shape (events_in shape run)) (runs_are_served shape run size wide) law (shown_so shape run size wide well))
+-- what is firm explains the transcript of every firm run
+pub firm_runs_are_serializable : SessionHasOutstanding → FirmRunsAreWellShown → FirmRunsAreSerializable
+firm_runs_are_serializable law well shape events size may =
+    subst (λ (state : FirmWorld). Serializable state.world.front.transcript state.firm) (beside shape events size may)
+    (serializable shape size (both_after shape events) (runs_are_served shape events size may) law (shown_so shape events size may well))

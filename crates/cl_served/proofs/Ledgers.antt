@@ -83,9 +83,9 @@ comes_from (one ∷ commands) operation is = by (comes_from commands operation) 
 -- ---- the ledger
 
 module _ (shape : Shape) (size : IsClusterSize shape.nodes shape.spares) (both : Ledgered) (well : IsServedWell shape both) (law : SessionHasOutstanding)
-    (shown : IsWellShown both.world.front.transcript) where
+    (shown : IsWellShown both.state.world.front.transcript) where
   abbrev transcript : List TranscriptEntry
-  transcript = both.world.front.transcript
+  transcript = both.state.world.front.transcript
 
   -- a session with its first command that has no answer
   pub goes : (s : ℕ) → GoesOn (told_session s transcript) (session_state s transcript)
@@ -95,9 +95,9 @@ module _ (shape : Shape) (size : IsClusterSize shape.nodes shape.spares) (both :
   inside_work : (name : TxnId) → IsOfSession name → (table key : List ℕ) (op : Op) (rest : List Command) →
       pending name.session transcript ≡ Work table key op ∷ rest →
       (transaction : Transaction) × ((told_session name.session transcript).current ≡ Some transaction)
-  inside_work name own table key op rest waits = by (stage_of shape size.counted both.world well.sound name own)
+  inside_work name own table key op rest waits = by (stage_of shape size.counted both.state.world well.sound name own)
     where
-      told : IsTold shape both.world name.session
+      told : IsTold shape both.state.world name.session
       told = let between = session_between name own in well.told name.session between.0 between.1
 
       by_what : (what : Command) (more : List Command) (current : Current) (session : SessionState) → pending name.session transcript ≡ what ∷ more →
@@ -108,7 +108,8 @@ module _ (shape : Shape) (size : IsClusterSize shape.nodes shape.spares) (both :
       by_what Commit more current session first is = (is.0, is.1.current)
       by_what Abort more current session first is = (is.0, is.1.current)
 
-      by : IsAtSome shape.nodes both.world name.session → (transaction : Transaction) × ((told_session name.session transcript).current ≡ Some transaction)
+      by : IsAtSome shape.nodes both.state.world name.session →
+          (transaction : Transaction) × ((told_session name.session transcript).current ≡ Some transaction)
       by (outside, at) = absurd (let none : [] ≡ Work table key op ∷ rest = sym (told.tells outside at).0 ∙ waits in cc)
       by (ready current entry, at) = absurd (let none : [] ≡ Work table key op ∷ rest = sym (told.tells (ready current entry) at).0 ∙ waits in cc)
       by (asking current what entries, at) = let is = told.tells (asking current what entries) at in by_what what _ current _ is.0 is.1
@@ -134,7 +135,7 @@ module _ (shape : Shape) (size : IsClusterSize shape.nodes shape.spares) (both :
 
   -- ---- members
 
-  member_whole : (name : TxnId) → is_member name both.world.history ≡ true → IsWhole (commands_of transcript name)
+  member_whole : (name : TxnId) → is_member name both.state.world.history ≡ true → IsWhole (commands_of transcript name)
   member_whole name member = by name.number refl (members_stand shape size both well name member)
     where
       ending : (t : Transaction) → told_commands (told_session name.session transcript) name.number ≡ t.commands → (ended : HasEnded t) → IsEnding ended.last →
@@ -142,9 +143,9 @@ module _ (shape : Shape) (size : IsClusterSize shape.nodes shape.spares) (both :
       ending t is ended (commits command outcome) = command
       ending t is ended (aborts cause outcome) =
           let is_in = subst (λ list. IsIn list ended.last) (sym (is ∙ ended.commands_are)) (IsIn-push_last ended.front ended.last) in
-          let out = true_within (λ e. IsTrueAnswer shape both.world name (outcome_of e)) (commands_told transcript name) ended.last
+          let out = true_within (λ e. IsTrueAnswer shape both.state name (outcome_of e)) (commands_told transcript name) ended.last
           (well.evident.answers name (well.evident.members name member)) is_in in
-          absurd (false≢true (sym (subst (IsTrueAnswer shape both.world name) outcome out).2 ∙ member))
+          absurd (false≢true (sym (subst (IsTrueAnswer shape both.state name) outcome out).so.2 ∙ member))
 
       by : (number : ℕ) → name.number ≡ number → HasCommitted (pending name.session transcript) (told_session name.session transcript) number →
           IsWhole (commands_of transcript name)
@@ -189,8 +190,8 @@ module _ (shape : Shape) (size : IsClusterSize shape.nodes shape.spares) (both :
 
   pub members_told : IsToldBy both.ledger transcript
   members_told name among =
-      let member : is_member name both.world.history ≡ true = ap (is_member name) (sym well.ledger.history) ∙ among in
-      let served : IsServed both.world both.ledger.done name = well.served name (well.evident.members name member) in
+      let member : is_member name both.state.world.history ≡ true = well.ledger.decided name (ap (is_member name) (sym well.ledger.history) ∙ among) in
+      let served : IsServed both.state.world both.ledger.done name = well.served name (well.evident.members name member) in
       let none : served.extra ≡ [] = member_extra name served.extra (members_stand shape size both well name member) served.is_extra in
       let told : Session = told_session name.session transcript in
       served.done_is
@@ -200,7 +201,7 @@ module _ (shape : Shape) (size : IsClusterSize shape.nodes shape.spares) (both :
       ∙ whole_done (commands_of transcript name) (member_whole name member))))
 
   -- the member's last command is COMMIT
-  pub member_commits : (name : TxnId) → is_member name both.world.history ≡ true →
+  pub member_commits : (name : TxnId) → is_member name both.state.world.history ≡ true →
       (exchange : Exchange) × IsIn (commands_of transcript name) exchange × (exchange.command ≡ Commit)
   member_commits name member =
       let is = member_whole name member in
@@ -208,7 +209,7 @@ module _ (shape : Shape) (size : IsClusterSize shape.nodes shape.spares) (both :
 
   pub ledger_shown : IsLedgerShown transcript both.ledger
   ledger_shown = record {
-    shown = λ name own. (let served : IsServed both.world both.ledger.done name = well.served name own in (
+    shown = λ name own. (let served : IsServed both.state.world both.ledger.done name = well.served name own in (
       served.extra,
       served.done_is ∙ ap (λ list. list ++ served.extra)
           (sym (done_same (told_session name.session transcript) (session_state name.session transcript) name.number (goes name.session))),
@@ -219,7 +220,7 @@ module _ (shape : Shape) (size : IsClusterSize shape.nodes shape.spares) (both :
     where
       asked_by : (name : TxnId) → IsOfSession name → (operation : Operation) → IsIn (both.ledger.done name) operation → IsAsked transcript name operation
       asked_by name own operation is =
-          let served : IsServed both.world both.ledger.done name = well.served name own in
+          let served : IsServed both.state.world both.ledger.done name = well.served name own in
           let told : Session = told_session name.session transcript in
           let same : both.ledger.done name ≡ done_among (commands_of transcript name) ++ served.extra =
           served.done_is ∙ ap (λ list. list ++ served.extra) (sym (done_same told (session_state name.session transcript) name.number (goes name.session))) in

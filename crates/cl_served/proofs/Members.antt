@@ -1,4 +1,4 @@
--- A member of the history has ended, as its session was told, or its COMMITTED is on its way.
+-- A transaction that was decided has ended, as its session was told, or its COMMITTED is on its way.
 use Rattle.std.proofs.Common.{◌≡◌, ◌≢◌, ℕ, zero, suc, ◌<◌, ◌≤◌, Bool, true, false, cond, ◌||◌, inl, inr, ◌⊎◌, List, [], ◌∷◌, ◌++◌, length, filter, All, Option, Some, None, refl, sym, ap, ◌∙◌, subst, arith}
 use Rattle.std.specs.List.{slice_get, list_any}
 use Rattle.std.specs.Option.{option_to_list}

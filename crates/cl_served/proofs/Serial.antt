@@ -1,4 +1,4 @@
--- The history of a run explains its transcript.
+-- What is firm of a run explains its transcript.
 use Rattle.std.proofs.Common.{◌≡◌, ℕ, zero, suc, ◌<◌, true, inl, inr, ◌⊎◌, List, [], ◌∷◌, Option, Some, None, refl, sym, ap, ◌∙◌, subst}
 use Rattle.std.specs.List.{AllByRecursion}
 use Rattle.std.specs.Option.{unwrap_or}
@@ -27,7 +27,7 @@ use Rattle.cl_types.specs.declared.answers.Outcome.TheVariants.{Committed, Abort
 use Rattle.cl_types.specs.declared.operations.TxnId.{TxnId}
 use Rattle.cl_served.proofs.Answered.{committed_at, of_session_from}
 use Rattle.cl_served.proofs.Committed.{lawful_at, committed_once}
-use Rattle.cl_served.proofs.Evidence.{IsTrueAnswer, commands_told, among_at, true_within}
+use Rattle.cl_served.proofs.Evidence.{IsTrueAnswer, commands_told, among_at, true_within, outcome_from}
 use Rattle.cl_served.proofs.Ledgers.{goes, members_told, member_commits}
 use Rattle.cl_served.proofs.Members.{has_transaction}
 use Rattle.cl_served.proofs.Outstanding.{answered_before, answered_still, began_there}
@@ -43,16 +43,17 @@ in_history (x ∷ history) name member = by (in_history history name) (or_cases 
     by rest (inl here) = (0, ap Some (sym (same_txn-true name x here)))
     by rest (inr there) = let found = rest there in (suc found.0, found.1)
 
-outcome_from : (exchange : Exchange) (outcome : Outcome) (position : ℕ) → exchange.answer ≡ Some (outcome, position) → outcome_of exchange ≡ Some outcome
-outcome_from exchange outcome position is = ap (λ (answer : Option (Outcome × ℕ)). elim answer [ None ↦ None | Some given ↦ Some given.0 ]) is
-
 module _ (shape : Shape) (size : IsClusterSize shape.nodes shape.spares) (both : Ledgered) (well : IsServedWell shape both) (law : SessionHasOutstanding)
-    (shown : IsWellShown both.world.front.transcript) where
+    (shown : IsWellShown both.state.world.front.transcript) where
   abbrev transcript : List TranscriptEntry
-  transcript = both.world.front.transcript
+  transcript = both.state.world.front.transcript
 
   abbrev history : List TxnId
-  history = both.world.history
+  history = both.state.firm
+
+  -- a firm transaction was decided
+  decided_at : (name : TxnId) (i : ℕ) → StandsAt history i name → is_member name both.state.world.history ≡ true
+  decided_at name i at = well.ledger.decided name (among_at history i name at)
 
   -- a command that was answered is told
   answered_in : (name : TxnId) (outcome : Outcome) (position : ℕ) → IsAnswered transcript name outcome position →
@@ -66,15 +67,15 @@ module _ (shape : Shape) (size : IsClusterSize shape.nodes shape.spares) (both :
 
   -- and its outcome is true
   true_outcome : (name : TxnId) (exchange : Exchange) (outcome : Outcome) (position : ℕ) → IsIn (commands_told transcript name) exchange →
-      exchange.answer ≡ Some (outcome, position) → IsTrueAnswer shape both.world name (Some outcome)
+      exchange.answer ≡ Some (outcome, position) → IsTrueAnswer shape both.state name (Some outcome)
   true_outcome name exchange outcome position is_in is =
-      subst (IsTrueAnswer shape both.world name) (outcome_from exchange outcome position is)
-      (true_within (λ e. IsTrueAnswer shape both.world name (outcome_of e)) (commands_told transcript name) exchange
+      subst (IsTrueAnswer shape both.state name) (outcome_from exchange outcome position is)
+      (true_within (λ e. IsTrueAnswer shape both.state name (outcome_of e)) (commands_told transcript name) exchange
       (well.evident.answers name (of_session_from transcript name exchange is_in)) is_in)
 
   committed_in : (name : TxnId) (exchange : Exchange) (position : ℕ) → IsIn (commands_told transcript name) exchange →
       exchange.answer ≡ Some (Committed, position) → IsIn history name
-  committed_in name exchange position is_in is = in_history history name (true_outcome name exchange Committed position is_in is).2
+  committed_in name exchange position is_in is = in_history history name (true_outcome name exchange Committed position is_in is).firm
 
   distinct : (i j : ℕ) (name : TxnId) → StandsAt history i name → StandsAt history j name → i ≡ j
   distinct i j name at_i at_j =
@@ -111,7 +112,7 @@ module _ (shape : Shape) (size : IsClusterSize shape.nodes shape.spares) (both :
   aborted_out name cause position is is_in =
       let found = answered_in name (Aborted cause) position is in
       let out = true_outcome name found.0 (Aborted cause) position found.1 found.2 in
-      false≢true (sym out.2 ∙ among_at history is_in.0 name is_in.1)
+      false≢true (sym out.so.2 ∙ decided_at name is_in.0 is_in.1)
 
   replies : RepliesAgree no_values (operations_of transcript history)
   replies = subst (λ list. RepliesAgree no_values (operations_of transcript list)) well.ledger.history
@@ -120,7 +121,7 @@ module _ (shape : Shape) (size : IsClusterSize shape.nodes shape.spares) (both :
   fits : HistoryFits transcript history
   fits = record {
     distinct = distinct;
-    committing = λ name is_in. member_commits shape size both well law shown name (among_at history is_in.0 name is_in.1);
+    committing = λ name is_in. member_commits shape size both well law shown name (decided_at name is_in.0 is_in.1);
     committed_listed = λ name position is. (let found = answered_in name Committed position is in committed_in name found.0 position found.1 found.2);
     committed_once = once;
     aborted_absent = aborted_out;
@@ -145,7 +146,7 @@ module _ (shape : Shape) (size : IsClusterSize shape.nodes shape.spares) (both :
   in_time i j x y at began at_i at_j answered begins early =
       let found = answered_in x Committed at answered in
       let told : Session = told_session y.session transcript in
-      let old = has_transaction (pending y.session transcript) told y.number (members_stand shape size both well y (among_at history j y at_j)) in
+      let old = has_transaction (pending y.session transcript) told y.number (members_stand shape size both well y (decided_at y j at_j)) in
       let same : old.0.begin ≡ began = began_there told (session_state y.session transcript) y.number old.0 begins.0
       (goes shape size both well law shown y.session) old.1 begins.1 ∙ begins.2 in
       well.evident.in_time i j x y found.0 old.0 at at_i at_j found.1 found.2 old.1 (subst (λ n. at < n) (sym same) early)

@@ -6,8 +6,8 @@ use Rattle.std.proofs.lemmas.List.Elements.{All-nil, All-cons, All-head, All-tai
 use Rattle.cl_commit.specs.Life.{Lives}
 use Rattle.cl_exchange.proofs.Delivered.{IsAtSome}
 use Rattle.cl_exchange.specs.Stage.{view_of, working, last_begun}
-use Rattle.cl_ledger.proofs.Keeping.{IsAt-keeps}
-use Rattle.cl_ledger.specs.Ledgers.{IsLedgerOf, message_steps}
+use Rattle.cl_ledger.proofs.Keeping.{KeepsLog, IsAt-keeps}
+use Rattle.cl_ledger.specs.Ledgers.{message_steps}
 use Rattle.cl_lone.specs.Lone.{lone_step}
 use Rattle.cl_node.specs.Addressing.{home_in}
 use Rattle.cl_order.specs.Ledger.{Ledger, stored_at}
@@ -40,8 +40,8 @@ use Rattle.cl_served.proofs.Asking.{outstanding_number, alone, asked_working}
 use Rattle.cl_served.proofs.Sessions.{next_number}
 use Rattle.cl_served.proofs.Serving.{told_done, IsOneMore, ServesAnswer, ServesMessage, IsServedBy, IsServed, All-popped, All-added}
 
-module _ (shape : Shape) (counted : IsNodeCount shape.nodes) (world : ReplicaWorld) (ledger : Ledger) (is : IsLedgerOf shape world ledger) (txn : TxnId) (v : ℕ)
-    (below : v < shape.nodes)
+module _ (shape : Shape) (counted : IsNodeCount shape.nodes) (world : ReplicaWorld) (ledger : Ledger) (txn : TxnId) (v : ℕ) (below : v < shape.nodes)
+    (kept : KeepsLog ledger v (world.replicas v).part)
     (number : ℕ) (table key : List ℕ) (op : Op) (rest : List Content) (here : world.mail (home_in shape.nodes txn) v ≡ Ask v txn number table key op ∷ rest)
     (addressed : (a b : ℕ) → All (IsAddressed shape.nodes a b) (world.mail a b)) (place_is : ledger.on (table, key) ≡ v) where
   abbrev home : ℕ
@@ -147,7 +147,7 @@ module _ (shape : Shape) (counted : IsNodeCount shape.nodes) (world : ReplicaWor
       subst (λ answer. IsServedBy world.front.transcript (next_mail answer)
       ((after_steps ledger (steps_of v (world.replicas v).part (ask_op txn place op))).done name) name)
       (sym (answers_are_noted ledger v (world.replicas v).part txn place op
-      (IsAt-keeps ledger v (world.replicas v).part (record { sound = is.sound v below; log = is.logs v below })) place_is))
+      (IsAt-keeps ledger v (world.replicas v).part kept) place_is))
       (by_refusal name served (λ same. subst (λ (t : TxnId). (t.number ≡ next_number (told_session t.session world.front.transcript))
       × ((extra : List Operation) (a b : ℕ) → All (ServesMessage (pending t.session world.front.transcript) extra t) (left_mail a b))) same
       (own_facts lives at tells)) (refusing (world.replicas v).part txn place op))

@@ -1,17 +1,14 @@
 -- The laws of what every run serves.
-use Rattle.cl_ledger.specs.Laws.{events_in}
 use Rattle.cl_ledger.specs.Ledgers.{both_after}
-use Rattle.cl_runs.specs.World.{world_after}
 use Rattle.cl_serial.specs.Serial.{Serializable}
-use Rattle.cl_shown.specs.Laws.{OfWideRuns}
-use Rattle.cl_shown.specs.Shown.{transcript_after}
-use Rattle.cl_system.specs.System.{system}
+use Rattle.cl_shown.specs.Laws.{transcript_of_firm}
+use Rattle.cl_system.specs.Firm.{firm_world_after, OfFirmRuns}
 use Rattle.cl_served.specs.Served.{IsLedgerShown}
 
--- the transcript of every run shows what its ledger has done
+-- the transcript of every firm run shows what its ledger has done
 abbrev pub LedgersAreShown : Type 0
-LedgersAreShown = OfWideRuns (λ shape run. IsLedgerShown (transcript_after shape run) (both_after shape (events_in shape run)).ledger)
+LedgersAreShown = OfFirmRuns (λ shape events. IsLedgerShown (transcript_of_firm shape events) (both_after shape events).ledger)
 
--- the history of every run explains its transcript
-abbrev pub RunsAreSerializable : Type 0
-RunsAreSerializable = OfWideRuns (λ shape run. Serializable (transcript_after shape run) (world_after (system shape.nodes) shape run).history)
+-- what is firm explains the transcript of every firm run
+abbrev pub FirmRunsAreSerializable : Type 0
+FirmRunsAreSerializable = OfFirmRuns (λ shape events. Serializable (transcript_of_firm shape events) (firm_world_after shape events).firm)

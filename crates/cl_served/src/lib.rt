@@ -3,4 +3,4 @@
 
 mod laws;
 
-pub use laws::{ledgers_are_shown, runs_are_serializable};
+pub use laws::{firm_runs_are_serializable, ledgers_are_shown};

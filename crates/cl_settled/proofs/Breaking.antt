@@ -1,15 +1,16 @@
 -- Whether a log has a record that breaks a transaction, and how that grows with the log.
-use Rattle.std.proofs.Common.{◌≡◌, ℕ, zero, suc, Bool, true, false, ◌⊎◌, inl, inr, List, [], ◌∷◌, ◌++◌, Option, Some, None, refl, sym, ◌∙◌, subst}
+use Rattle.std.proofs.Common.{◌≡◌, ℕ, zero, suc, Bool, true, false, ◌&&◌, ◌⊎◌, inl, inr, List, [], ◌∷◌, ◌++◌, Option, Some, None, refl, sym, ◌∙◌, subst}
 use Rattle.std.specs.List.{list_any}
-use Rattle.std.proofs.lemmas.Bool.{or_left, or_right, or_cases, and_from, false≢true}
+use Rattle.std.proofs.lemmas.Bool.{or_left, or_right, or_cases, and_parts, and_from, false≢true}
 use Rattle.std.proofs.lemmas.List.Folds.{list_any-append}
 use Rattle.cl_types.specs.declared.operations.Mode.{Mode}
 use Rattle.cl_types.specs.declared.operations.TxnId.{TxnId}
 use Rattle.cl_types.specs.Places.{Place}
+use Rattle.cl_types.specs.Transactions.{same_txn}
 use Rattle.cl_types.proofs.Transactions.{same_txn-true, same_txn-itself}
 use Rattle.cl_log.specs.declared.records.LogRec.{LogRec}
 use Rattle.cl_log.specs.declared.records.LogRec.TheVariants.{Set, Add, Comp, End}
-use Rattle.cl_log.specs.Kind.{txn_of, can_be_undone}
+use Rattle.cl_log.specs.Kind.{txn_of, can_be_undone, is_of, is_end}
 use Rattle.cl_log.specs.LogEntry.{LogEntry}
 use Rattle.cl_log.specs.Locks.{mode_at}
 use Rattle.cl_log.specs.Open.{has_ended}
@@ -41,6 +42,11 @@ aborts-breaks txn (Comp other table key before undone form) h = h
 aborts-breaks txn (End other true) h = absurd (false≢true h)
 aborts-breaks txn (End other false) h = h
 aborts-breaks txn content h = absurd (false≢true h)
+
+-- what ends it breaks it
+ending-breaks : (txn : TxnId) (content : LogRec) → (is_of txn content && is_end content) ≡ true → breaks txn content ≡ true
+ending-breaks txn (End other commit) h = subst (λ t. same_txn txn t ≡ true) (sym (same_txn-true other txn (and_parts _ _ h).0)) (same_txn-itself txn)
+ending-breaks txn content h = absurd (false≢true (and_parts (is_of txn content) (is_end content) h).1)
 
 -- what takes a lock breaks nothing
 pub locking-breaks : (txn : TxnId) (content : LogRec) (place : Place) (mode : Mode) → mode_at place content ≡ Some mode → breaks txn content ≡ false
@@ -79,17 +85,23 @@ broken_entry (first ∷ log) txn h = elim (or_cases (breaks txn first.content) (
   | inr later ↦ (let rest = broken_entry log txn later in (rest.0, (suc rest.1.0, rest.1.1), rest.2))
 ]
 
-pub aborted-broken : (log : List LogEntry) (txn : TxnId) → is_aborted log txn ≡ true → is_broken log txn ≡ true
-aborted-broken [] txn h = h
-aborted-broken (first ∷ log) txn h = elim (or_cases (aborts txn first.content) (is_aborted log txn) h) [
-  | inl here ↦ or_left _ _ (aborts-breaks txn first.content here)
-  | inr later ↦ or_right _ _ (aborted-broken log txn later)
+-- whoever has ended is broken
+pub ended-broken : (log : List LogEntry) (txn : TxnId) → has_ended log txn ≡ true → is_broken log txn ≡ true
+unfolding has_ended
+ended-broken [] txn h = h
+ended-broken (first ∷ log) txn h = elim (or_cases (is_of txn first.content && is_end first.content) (has_ended log txn) h) [
+  | inl here ↦ or_left _ _ (ending-breaks txn first.content here)
+  | inr later ↦ or_right _ _ (ended-broken log txn later)
 ]
 
 -- ---- a log that grows
 
 pub broken_grown : (log added : List LogEntry) (txn : TxnId) → is_broken log txn ≡ true → is_broken (log ++ added) txn ≡ true
 broken_grown log added txn h = list_any-append (λ e. breaks txn e.content) log added ∙ or_left _ _ h
+
+-- whoever is aborted in a log is so in a longer one
+pub aborted_grown : (log added : List LogEntry) (txn : TxnId) → is_aborted log txn ≡ true → is_aborted (log ++ added) txn ≡ true
+aborted_grown log added txn h = list_any-append (λ e. aborts txn e.content) log added ∙ or_left _ _ h
 
 pub ended_grown : (log added : List LogEntry) (txn : TxnId) → has_ended log txn ≡ true → has_ended (log ++ added) txn ≡ true
 unfolding has_ended
@@ -105,6 +117,10 @@ aborted_push log entry txn h = or_cases _ _ (sym (list_any_push (λ e. aborts tx
 
 pub push_broken : (log : List LogEntry) (entry : LogEntry) (txn : TxnId) → breaks txn entry.content ≡ true → is_broken (log ++ entry ∷ []) txn ≡ true
 push_broken log entry txn h = list_any_push (λ e. breaks txn e.content) log entry ∙ or_right _ _ h
+
+-- a record that aborts a transaction makes it aborted
+pub push_aborted : (log : List LogEntry) (entry : LogEntry) (txn : TxnId) → aborts txn entry.content ≡ true → is_aborted (log ++ entry ∷ []) txn ≡ true
+push_aborted log entry txn h = list_any_push (λ e. aborts txn e.content) log entry ∙ or_right _ _ h
 
 pub push_ended : (log : List LogEntry) (number : ℕ) (txn : TxnId) (commit : Bool) →
     has_ended (log ++ record { number = number; content = End txn commit } ∷ []) txn ≡ true

@@ -7,47 +7,58 @@ use Rattle.cl_log.specs.LogEntry.{LogEntry}
 use Rattle.cl_log.specs.Open.{has_ended, is_among}
 use Rattle.cl_order.specs.Ledger.{Ledger, IsOrdered}
 use Rattle.cl_order.specs.Steps.{Step, after_steps, AreEnabled}
-use Rattle.cl_settled.proofs.Breaking.{is_broken, is_aborted, aborted-broken, ended_grown}
-use Rattle.cl_settled.proofs.Growing.{IsNoCut, Breaks, Aborts, Ends, Joins, EachStep, SomeStep, UnbrokenWhole, ended_stays, steps_grow, steps_history, steps_end, steps_whole}
+use Rattle.cl_settled.proofs.Breaking.{is_broken, is_aborted, ended-broken, ended_grown}
+use Rattle.cl_settled.proofs.Growing.{IsNoCut, Breaks, Aborts, Ends, Joins, IsResolved, EachStep, SomeStep, UnbrokenWhole, ended_stays, steps_grow, steps_history, steps_end, resolved_stays, steps_resolve, steps_whole}
 
--- what the steps of an event are
-pub record IsTurn (nodes : ℕ) (ledger : Ledger) (steps : List Step) : Type 0 where
+-- what the steps of an event are, where these transactions are lost for good
+pub record IsTurn (nodes : ℕ) (Lost : TxnId → Type 0) (ledger : Ledger) (steps : List Step) : Type 0 where
   pub no_cut : EachStep IsNoCut steps
   -- whom they break they end
   pub ends : (u : ℕ) (txn : TxnId) → SomeStep (Breaks u txn) steps → SomeStep (Ends u txn) steps
-  -- whom they abort is no member, and does not join
-  pub outside : (u : ℕ) (txn : TxnId) → SomeStep (Aborts u txn) steps → (is_among txn ledger.history ≡ false) × (SomeStep (Joins txn) steps → ⊥)
+  -- whom they abort is lost
+  pub lost : (u : ℕ) (txn : TxnId) → SomeStep (Aborts u txn) steps → Lost txn
   -- who joins has not ended anywhere
   pub unended : (txn : TxnId) → SomeStep (Joins txn) steps → (u : ℕ) → u < nodes → has_ended (ledger.logs u) txn ≡ false
 
 -- what holds between two events
-pub record IsSettling (nodes : ℕ) (ledger : Ledger) : Type 0 where
+pub record IsSettling (nodes : ℕ) (Lost : TxnId → Type 0) (ledger : Ledger) : Type 0 where
   -- whoever is broken has ended
   pub ended : (u : ℕ) → u < nodes → (txn : TxnId) → is_broken (ledger.logs u) txn ≡ true → has_ended (ledger.logs u) txn ≡ true
-  -- no member is aborted
-  pub clean : (u : ℕ) → u < nodes → (txn : TxnId) → is_among txn ledger.history ≡ true → is_aborted (ledger.logs u) txn ≡ true → ⊥
+  -- and is aborted, or a member
+  pub resolved : (u : ℕ) → u < nodes → (txn : TxnId) → is_broken (ledger.logs u) txn ≡ true → IsResolved ledger u txn
+  -- whoever is aborted is lost
+  pub lost : (u : ℕ) → u < nodes → (txn : TxnId) → is_aborted (ledger.logs u) txn ≡ true → Lost txn
   -- who is neither a member nor broken is whole
   pub whole : UnbrokenWhole ledger
 
-pub turn_settles : (nodes : ℕ) (ledger : Ledger) (steps : List Step) → IsOrdered ledger → AreEnabled ledger steps → IsTurn nodes ledger steps →
-    IsSettling nodes ledger → IsSettling nodes (after_steps ledger steps)
-turn_settles nodes ledger steps ordered enabled turn settling = record {
+-- an event leaves it so, where whoever was lost stays lost
+pub turn_settles : (nodes : ℕ) (Before After : TxnId → Type 0) (ledger : Ledger) (steps : List Step) → IsOrdered ledger → AreEnabled ledger steps →
+    IsTurn nodes Before ledger steps → ((txn : TxnId) → Before txn → After txn) → IsSettling nodes Before ledger →
+    IsSettling nodes After (after_steps ledger steps)
+turn_settles nodes Before After ledger steps ordered enabled turn stays settling = record {
   ended = λ u below txn broken. elim ((steps_grow steps ledger turn.no_cut u).broken txn broken) [
     | inl was ↦ ended_stays _ _ _ _ txn (steps_grow steps ledger turn.no_cut u) (settling.ended u below txn was)
     | inr now ↦ steps_end steps ledger turn.no_cut u txn (turn.ends u txn now)
   ];
-  clean = λ u below txn member aborted. elim ((steps_grow steps ledger turn.no_cut u).aborted txn aborted) [
-    | inl was ↦ elim ((steps_history steps ledger).members txn member) [
-      | inl old ↦ settling.clean u below txn old was
-      | inr joins ↦ both_ways _ (turn.unended txn joins u below) (settling.ended u below txn (aborted-broken (ledger.logs u) txn was))
-    ]
-    | inr now ↦ elim ((steps_history steps ledger).members txn member) [
-      | inl old ↦ both_ways _ (turn.outside u txn now).0 old
-      | inr joins ↦ (turn.outside u txn now).1 joins
-    ]
+  resolved = λ u below txn broken. elim ((steps_grow steps ledger turn.no_cut u).broken txn broken) [
+    | inl was ↦ resolved_stays steps ledger turn.no_cut u txn (settling.resolved u below txn was)
+    | inr now ↦ steps_resolve steps ledger turn.no_cut enabled u txn (turn.ends u txn now)
   ];
+  lost = λ u below txn aborted. stays txn (elim ((steps_grow steps ledger turn.no_cut u).aborted txn aborted) [
+    | inl was ↦ settling.lost u below txn was
+    | inr now ↦ turn.lost u txn now
+  ]);
   whole = steps_whole steps ledger turn.no_cut ordered enabled settling.whole;
 }
+
+-- whoever is neither a member nor lost has not ended anywhere
+pub outside_unended : (nodes : ℕ) (Lost : TxnId → Type 0) (ledger : Ledger) → IsSettling nodes Lost ledger → (txn : TxnId) →
+    is_among txn ledger.history ≡ false → (Lost txn → ⊥) → (u : ℕ) → u < nodes → has_ended (ledger.logs u) txn ≡ false
+outside_unended nodes Lost ledger settling txn outside found u below = false_from_ne_true _ (λ ended.
+    elim (settling.resolved u below txn (ended-broken (ledger.logs u) txn ended)) [
+      | inl aborted ↦ found (settling.lost u below txn aborted)
+      | inr member ↦ both_ways _ outside member
+    ])
 
 -- ---- from one ledger to a later one
 
@@ -64,8 +75,9 @@ goes_nowhere nodes ledger = record {
   stays_out = λ u txn below ended out. out;
 }
 
-pub turn_goes_on : (nodes : ℕ) (ledger : Ledger) (steps : List Step) → IsTurn nodes ledger steps → GoesOn nodes ledger (after_steps ledger steps)
-turn_goes_on nodes ledger steps turn = record {
+pub turn_goes_on : (nodes : ℕ) (Lost : TxnId → Type 0) (ledger : Ledger) (steps : List Step) → IsTurn nodes Lost ledger steps →
+    GoesOn nodes ledger (after_steps ledger steps)
+turn_goes_on nodes Lost ledger steps turn = record {
   logs = λ u. let grows = steps_grow steps ledger turn.no_cut u in (grows.added, grows.whole);
   history = (let grows = steps_history steps ledger in (grows.added, grows.whole));
   stays_out = λ u txn below ended out. false_from_ne_true _ (λ member. elim ((steps_history steps ledger).members txn member) [

@@ -22,7 +22,7 @@ use Rattle.cl_order.proofs.Ledgers.{logs_with-each}
 use Rattle.cl_order.proofs.LawLemmas.{steps_keep_order}
 use Rattle.cl_order.proofs.Records.{Fitting, record_fits}
 use Rattle.cl_settled.specs.Settled.{breaks, aborts}
-use Rattle.cl_settled.proofs.Breaking.{is_broken, is_aborted, breaks-own, aborts-breaks, locking-breaks, undoing-breaks, broken_grown, ended_grown, broken_push, aborted_push, push_broken, push_ended}
+use Rattle.cl_settled.proofs.Breaking.{is_broken, is_aborted, breaks-own, aborts-breaks, locking-breaks, undoing-breaks, broken_grown, aborted_grown, ended_grown, broken_push, aborted_push, push_broken, push_aborted, push_ended}
 
 -- ---- what a step does
 
@@ -85,6 +85,10 @@ EachStep P (step ∷ steps) = P step × EachStep P steps
 abbrev pub SomeStep : (Step → Type 0) → List Step → Type 0
 SomeStep P [] = ⊥
 SomeStep P (step ∷ steps) = P step ⊎ SomeStep P steps
+
+-- the transaction is aborted in the log of the virtual node, or a member of the history
+abbrev pub IsResolved : Ledger → ℕ → TxnId → Type 0
+IsResolved ledger u txn = (is_aborted (ledger.logs u) txn ≡ true) ⊎ (is_among txn ledger.history ≡ true)
 
 -- ---- one log
 
@@ -223,6 +227,22 @@ module _ (ledger : Ledger) where
   step_ends (undo v content) u txn none = absurd none
   step_ends (cut v front) u txn none = absurd none
 
+  -- and is resolved after
+  step_resolves : (step : Step) → IsEnabled ledger step → (u : ℕ) (txn : TxnId) → Ends u txn step → IsResolved (after_step ledger step) u txn
+  step_resolves (finish v actor true) may u txn (here, same) = inr (ap (λ t. is_among t ledger.history) same ∙ may.member)
+  step_resolves (finish v actor false) may u txn (here, same) =
+      let there : is_aborted (logs_with ledger.logs v (log_with (ledger.logs v) (End actor false)) v) actor ≡ true
+      = ap (λ (log : List LogEntry). is_aborted log actor) (log_here v (log_with (ledger.logs v) (End actor false)))
+      ∙ push_aborted (ledger.logs v) _ actor (same_txn-itself actor) in
+      inl (subst (λ w. is_aborted (logs_with ledger.logs v (log_with (ledger.logs v) (End actor false)) w) txn ≡ true) (sym here)
+      (subst (λ t. is_aborted (logs_with ledger.logs v (log_with (ledger.logs v) (End actor false)) v) t ≡ true) (sym same) there))
+  step_resolves (carry_out actor place op) may u txn none = absurd none
+  step_resolves (prepare v actor) may u txn none = absurd none
+  step_resolves (decide v actor) may u txn none = absurd none
+  step_resolves (join actor) may u txn none = absurd none
+  step_resolves (undo v content) may u txn none = absurd none
+  step_resolves (cut v front) may u txn none = absurd none
+
 -- ---- the history after a step
 
 -- a history has grown: who is a member is one before, or joins
@@ -289,6 +309,23 @@ steps_end (step ∷ steps) ledger no_cut u txn (inl here) =
     ended_stays (λ other. SomeStep (Breaks u other) steps) (λ other. SomeStep (Aborts u other) steps) ((after_step ledger step).logs u) _ txn
     (steps_grow steps (after_step ledger step) no_cut.1 u) (step_ends ledger step u txn here)
 steps_end (step ∷ steps) ledger no_cut u txn (inr later) = steps_end steps (after_step ledger step) no_cut.1 u txn later
+
+-- whoever is resolved stays so
+pub resolved_stays : (steps : List Step) (ledger : Ledger) → EachStep IsNoCut steps → (u : ℕ) (txn : TxnId) → IsResolved ledger u txn →
+    IsResolved (after_steps ledger steps) u txn
+resolved_stays steps ledger no_cut u txn resolved = elim resolved [
+  | inl aborted ↦ inl (let grows = steps_grow steps ledger no_cut u in
+      ap (λ (log : List LogEntry). is_aborted log txn) grows.whole ∙ aborted_grown (ledger.logs u) grows.added txn aborted)
+  | inr member ↦ inr (member_stays _ _ _ txn (steps_history steps ledger) member)
+]
+
+-- whoever steps end is resolved
+pub steps_resolve : (steps : List Step) (ledger : Ledger) → EachStep IsNoCut steps → AreEnabled ledger steps → (u : ℕ) (txn : TxnId) →
+    SomeStep (Ends u txn) steps → IsResolved (after_steps ledger steps) u txn
+steps_resolve [] ledger no_cut may u txn none = absurd none
+steps_resolve (step ∷ steps) ledger no_cut may u txn (inl here) =
+    resolved_stays steps (after_step ledger step) no_cut.1 u txn (step_resolves ledger step may.0 u txn here)
+steps_resolve (step ∷ steps) ledger no_cut may u txn (inr later) = steps_resolve steps (after_step ledger step) no_cut.1 may.1 u txn later
 
 -- ---- who is whole
 

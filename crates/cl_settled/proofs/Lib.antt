@@ -3,5 +3,4 @@ mod Growing
 mod Going
 mod Turning
 mod Runs
-mod Replicas
 pub mod Agreeing

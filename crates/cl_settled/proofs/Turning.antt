@@ -1,22 +1,16 @@
--- The steps that each event is: what they break they end, and who joins has not ended anywhere.
-use Rattle.std.proofs.Common.{◌≡◌, ◌≢◌, ℕ, ◌<◌, nat_eq, eqb, Bool, true, false, cond, not, ◌&&◌, ◌⊎◌, inl, inr, List, [], ◌∷◌, ◌++◌, Option, Some, None, refl, sym, ◌∙◌, ap, subst}
-use Rattle.std.proofs.lemmas.Bool.{cond_both, eq-eqb, eqb-false, and_parts, and_from, false_from_ne_true, true≢false}
-use Rattle.cl_types.specs.declared.answers.Answer.{Answer as OpAnswer}
-use Rattle.cl_types.specs.declared.answers.Answer.TheVariants as answer
+-- The steps that each event is: what they break they end, whom they abort was aborted for good, and who joins has not ended anywhere.
+use Rattle.std.proofs.Common.{◌≡◌, ℕ, ◌<◌, nat_eq, eqb, Bool, true, false, cond, ◌&&◌, ◌⊎◌, inl, inr, List, [], ◌∷◌, ◌++◌, Option, Some, None, filter, refl, sym, ◌∙◌, ap, subst}
+use Rattle.std.proofs.lemmas.Bool.{cond_both, eq-eqb, eqb-false, and_parts, and_from, both_ways, true≢false}
 use Rattle.cl_types.specs.declared.operations.Op.{Op}
 use Rattle.cl_types.specs.declared.operations.TxnId.{TxnId}
 use Rattle.cl_types.specs.Places.{Place}
 use Rattle.cl_types.specs.Transactions.{same_txn}
 use Rattle.cl_types.proofs.Transactions.{same_txn-true, same_txn-itself}
-use Rattle.cl_control.specs.declared.entry.Phase.{Phase}
-use Rattle.cl_control.specs.declared.entry.Phase.TheVariants.{Idle, Asked, Preparing, Decided, Logged}
 use Rattle.cl_control.specs.Calls.{command_acts, counts_vote, is_last_vote}
-use Rattle.cl_control.specs.State.{Entry, entry_of, is_among as is_in}
-use Rattle.cl_log.specs.declared.stage.Stage.{Stage}
-use Rattle.cl_log.specs.declared.stage.Stage.TheVariants.{Unknown, Running, Prepared, Ended}
+use Rattle.cl_control.specs.State.{Entry}
 use Rattle.cl_log.specs.Kind.{txn_of}
 use Rattle.cl_log.specs.LogEntry.{LogEntry}
-use Rattle.cl_log.specs.Open.{has_begun, has_ended, has_prepared, is_open, is_among}
+use Rattle.cl_log.specs.Open.{has_ended, is_open, is_among}
 use Rattle.cl_log.specs.Rest.{rest_to_undo}
 use Rattle.cl_log.proofs.KindFacts.{txn_of-undo_of}
 use Rattle.cl_log.proofs.Rest.{first_of_rest_is}
@@ -30,114 +24,82 @@ use Rattle.cl_roster.specs.Roster.{IsClusterSize}
 use Rattle.cl_runs.specs.Queues.{QueueEvent, deliver, take_line, quieten, nothing}
 use Rattle.cl_runs.specs.World.{Shape}
 use Rattle.cl_steps.specs.declared.actors.TheConstants.{FRONT}
-use Rattle.cl_vnode.specs.Inputs.{Fits, has_decide}
+use Rattle.cl_vnode.specs.Inputs.{has_decide}
 use Rattle.cl_wire.specs.Message.{Content, Bare, Command, Outcome, Ask, Answer, Prepare, Vote, Finish, Inquire, Decision, Log, LogAck, Repair, Records, Names, CopyAck}
+use Rattle.cl_system.specs.Firm.{FirmWorld, FirmEvent, happens, reorder, join as firmly, MayFirm}
 use Rattle.cl_system.specs.Replicas.{ReplicaWorld, MayReplicas}
-use Rattle.cl_system.specs.Roles.{IsOfSession, IsAddressed}
-use Rattle.cl_system.proofs.Places.{receiver_below, fits_replica}
+use Rattle.cl_system.specs.Roles.{IsAddressed}
+use Rattle.cl_system.proofs.Places.{receiver_below}
 use Rattle.cl_exchange.specs.Laws.{IsSoundWorld}
-use Rattle.cl_exchange.proofs.Runs.{events_fit, first_addressed}
-use Rattle.cl_commit.specs.Life.{Life, to_come, open_as, committed, aborted, entry_in, IsSoFar, MayParticipate, MayStandOpen, MayStand, Lives, CommitsWhole}
-use Rattle.cl_commit.specs.Standing.{Standing, absent, running, asked, answered, preparing, voting, voted, ending, over, PartView, part_view, StandsSo, IsUnprepared, IsAnswered}
-use Rattle.cl_ledger.specs.Ledgers.{IsLedgerOf, undo_steps, finish_steps, commit_steps, message_steps, first_steps, event_steps}
-use Rattle.cl_ledger.proofs.Messages.{decides_open, counts_open}
+use Rattle.cl_exchange.proofs.Runs.{first_addressed}
+use Rattle.cl_commit.specs.Life.{Life, to_come, open_as, committed, aborted, entry_in, IsSoFar, MayStand, Lives, CommitsWhole}
+use Rattle.cl_commit.specs.Standing.{Standing, part_view, is_order, StandsSo}
+use Rattle.cl_ledger.specs.Ledgers.{IsLedgerOf, undo_steps, finish_steps, decision_steps, message_steps, first_steps, event_steps, firm_steps}
 use Rattle.cl_ledger.proofs.Standings.{finish_stands}
 use Rattle.cl_settled.proofs.Growing.{IsNoCut, Breaks, Aborts, Ends, Joins, EachStep, SomeStep}
-use Rattle.cl_settled.proofs.Going.{IsTurn}
+use Rattle.cl_settled.proofs.Going.{IsTurn, IsSettling, outside_unended}
 
--- ---- an open transaction has not ended
+-- ---- who is lost
 
--- its participant is neither ending nor over
-abbrev IsLive : Standing → Type 0
-IsLive absent = Unit {0}
-IsLive running = Unit {0}
-IsLive (asked number) = Unit {0}
-IsLive (answered number reply) = Unit {0}
-IsLive preparing = Unit {0}
-IsLive voting = Unit {0}
-IsLive voted = Unit {0}
-IsLive (ending commit) = ⊥
-IsLive over = ⊥
+-- the transaction was aborted, and never becomes a member
+abbrev pub IsLost : ℕ → ReplicaWorld → TxnId → Type 0
+IsLost nodes world txn = IsSoFar nodes world txn aborted
 
-unprepared_live : (stage : Stage) → IsUnprepared stage → stage ≡ Ended → ⊥
-unprepared_live stage (inl is) ended = let e : Running ≡ Ended = sym is ∙ ended in cc
-unprepared_live stage (inr is) ended = let e : Unknown ≡ Ended = sym is ∙ ended in cc
+-- an end without commit is on its way to a virtual node
+module _ (shape : Shape) (world : ReplicaWorld) (txn : TxnId) (v : ℕ) (below : v < shape.nodes) (lives : Lives shape world txn) (rest : List Content)
+    (here : world.mail (home_in shape.nodes txn) v ≡ Finish v txn false ∷ rest) where
+  -- it is of the transaction
+  own_end : (nat_eq v v && same_txn txn txn) ≡ true
+  own_end = and_from _ _ (eq-eqb v v refl) (same_txn-itself txn)
 
-answered_live : (reply : OpAnswer) (stage : Stage) → IsAnswered reply stage → stage ≡ Ended → ⊥
-answered_live (answer.Done value) stage is ended = let e : Running ≡ Ended = sym is ∙ ended in cc
-answered_live (answer.Refused holder) stage is ended = unprepared_live stage is ended
-answered_live answer.NoMemory stage is ended = unprepared_live stage is ended
+  -- so an order is on its way
+  order_waits : (part_view shape.nodes world txn v).orders ≡ [] → ⊥
+  order_waits none =
+      let more : List Content = filter (is_order v txn) rest in
+      let e : ◌≡◌ {A = List Content} [] (Finish v txn false ∷ more)
+      = sym none ∙ ap (filter (is_order v txn)) here ∙ ap (λ b. cond b (Finish v txn false ∷ more) more) own_end in cc
 
-live_stage : (v : ℕ) (txn : TxnId) (view : PartView) (standing : Standing) → StandsSo v txn view standing → IsLive standing → view.stage ≡ Ended → ⊥
-live_stage v txn view absent stands live ended = let e : Unknown ≡ Ended = sym stands.at ∙ ended in cc
-live_stage v txn view running stands live ended = let e : Running ≡ Ended = sym stands.at ∙ ended in cc
-live_stage v txn view (asked number) stands live ended = unprepared_live view.stage stands.1 ended
-live_stage v txn view (answered number reply) stands live ended = answered_live reply view.stage stands.1 ended
-live_stage v txn view preparing stands live ended = let e : Running ≡ Ended = sym stands.1 ∙ ended in cc
-live_stage v txn view voting stands live ended = let e : Prepared ≡ Ended = sym stands.1 ∙ ended in cc
-live_stage v txn view voted stands live ended = let e : Prepared ≡ Ended = sym stands.at ∙ ended in cc
-live_stage v txn view (ending commit) stands live ended = live
-live_stage v txn view over stands live ended = live
+  -- its transaction is no member, and no controller has it open
+  closed_outside : (entry_in shape.nodes world txn ≡ None) × (is_among txn world.history ≡ false)
+  closed_outside = finish_stands shape world txn v below lives false rest here own_end
 
-phase_live : (phase : Phase) (has_voted : Bool) (v : ℕ) (standing : Standing) → MayParticipate phase has_voted v standing → IsLive standing
-phase_live Idle has_voted v standing may = subst IsLive (sym may) tt
-phase_live (Asked number w) has_voted v standing (inl (at, inl may)) = subst IsLive (sym may) tt
-phase_live (Asked number w) has_voted v standing (inl (at, inr may)) = subst IsLive (sym may.1) tt
-phase_live (Asked number w) has_voted v standing (inr may) = subst IsLive (sym may.1) tt
-phase_live (Preparing number) true v standing may = subst IsLive (sym may) tt
-phase_live (Preparing number) false v standing (inl may) = subst IsLive (sym may) tt
-phase_live (Preparing number) false v standing (inr may) = subst IsLive (sym may) tt
-phase_live (Decided number) has_voted v standing may = absurd may
-phase_live (Logged number) has_voted v standing may = absurd may
+  -- of all lives it has the one of an aborted transaction
+  lost_so_far : (life : Life) (standing : Standing) → IsSoFar shape.nodes world txn life → MayStand life v standing →
+      StandsSo v txn (part_view shape.nodes world txn v) standing → IsLost shape.nodes world txn
+  lost_so_far to_come standing so_far may stands = absurd (order_waits (subst (StandsSo v txn (part_view shape.nodes world txn v)) may stands).orders)
+  lost_so_far (open_as entry) standing so_far may stands = absurd (let e : ◌≡◌ {A = Option Entry} None (Some entry) = sym closed_outside.0 ∙ so_far.1 in cc)
+  lost_so_far committed standing so_far may stands = absurd (both_ways _ closed_outside.1 so_far.2)
+  lost_so_far aborted standing so_far may stands = so_far
 
-open_live : (b : Bool) (entry : Entry) (v : ℕ) (standing : Standing) → MayStandOpen b entry v standing → IsLive standing
-open_live true entry v standing may = phase_live entry.phase (is_in v entry.votes) v standing may
-open_live false entry v standing may = subst IsLive (sym may) tt
-
-life_live : (nodes : ℕ) (world : ReplicaWorld) (txn : TxnId) (life : Life) (entry : Entry) → IsSoFar nodes world txn life →
-    entry_in nodes world txn ≡ Some entry → (v : ℕ) (standing : Standing) → MayStand life v standing → IsLive standing
-life_live nodes world txn to_come entry so_far is v standing may = absurd (let e : ◌≡◌ {A = Option Entry} None (Some entry) = sym so_far.1 ∙ is in cc)
-life_live nodes world txn (open_as other) entry so_far is v standing may = open_live (is_in v other.participants) other v standing may
-life_live nodes world txn committed entry so_far is v standing may = absurd (let e : ◌≡◌ {A = Option Entry} None (Some entry) = sym so_far.1 ∙ is in cc)
-life_live nodes world txn aborted entry so_far is v standing may = absurd (let e : ◌≡◌ {A = Option Entry} None (Some entry) = sym so_far.1 ∙ is in cc)
-
-ended_stage : (begun ended prepared : Bool) → begun ≡ true → ended ≡ true → cond (not begun) Unknown (cond ended Ended (cond prepared Prepared Running)) ≡ Ended
-ended_stage true true prepared b e = refl
-ended_stage true false prepared b e = absurd (true≢false (sym e))
-ended_stage false ended prepared b e = absurd (true≢false (sym b))
-
--- whose controller has it open has not ended at any virtual node
-open_unended : (shape : Shape) (world : ReplicaWorld) (txn : TxnId) (entry : Entry) → IsOfSession txn → CommitsWhole shape world →
-    entry_in shape.nodes world txn ≡ Some entry →
-    (u : ℕ) → u < shape.nodes → has_ended (world.replicas u).part.log txn ≡ false
-open_unended shape world txn entry own commits is u below =
-    let lives : Lives shape world txn = commits.lives txn own in
-    let log : List LogEntry = (world.replicas u).part.log in
-    let stands = lives.stands u below in
-    let live : IsLive stands.0 = life_live shape.nodes world txn lives.life entry lives.so_far is u stands.0 stands.2 in
-    false_from_ne_true _ (λ ended. live_stage u txn (part_view shape.nodes world txn u) stands.0 stands.1 live
-    (ended_stage (has_begun log txn) (has_ended log txn) (has_prepared log txn) ((commits.parts u below).begun txn ended) ended))
+  -- so it is lost
+  ending_lost : IsLost shape.nodes world txn
+  ending_lost = let stands = lives.stands v below in lost_so_far lives.life stands.0 lives.so_far stands.2 stands.1
 
 -- ---- lists of steps
 
+-- what follows from a fact of each step holds of each
 each_weaker : (P Q : Step → Type 0) → ((step : Step) → P step → Q step) → (steps : List Step) → EachStep P steps → EachStep Q steps
 each_weaker P Q weaker [] each = tt
 each_weaker P Q weaker (step ∷ steps) each = (weaker step each.0, each_weaker P Q weaker steps each.1)
 
+-- a fact of each step of two lists is one of both together
 each_both : (P : Step → Type 0) (xs ys : List Step) → EachStep P xs → EachStep P ys → EachStep P (xs ++ ys)
 each_both P [] ys front back = back
 each_both P (step ∷ xs) ys front back = (front.0, each_both P xs ys front.1 back)
 
+-- what follows from a fact of each step and one of some
 some_each : (P Q : Step → Type 0) (R : Type 0) → ((step : Step) → P step → Q step → R) → (steps : List Step) → EachStep P steps → SomeStep Q steps → R
 some_each P Q R both [] each none = absurd none
 some_each P Q R both (step ∷ steps) each (inl here) = both step each.0 here
 some_each P Q R both (step ∷ steps) each (inr later) = some_each P Q R both steps each.1 later
 
+-- some step of two lists together is one of either
 some_either : (Q : Step → Type 0) (xs ys : List Step) → SomeStep Q (xs ++ ys) → SomeStep Q xs ⊎ SomeStep Q ys
 some_either Q [] ys some = inr some
 some_either Q (step ∷ xs) ys (inl here) = inl (inl here)
 some_either Q (step ∷ xs) ys (inr later) = elim (some_either Q xs ys later) [ inl front ↦ inl (inr front) | inr back ↦ inr back ]
 
+-- some step of the second list is one of both together
 some_back : (Q : Step → Type 0) (xs ys : List Step) → SomeStep Q ys → SomeStep Q (xs ++ ys)
 some_back Q [] ys some = some
 some_back Q (step ∷ xs) ys some = inr (some_back Q xs ys some)
@@ -154,18 +116,21 @@ IsUndoOf v txn (undo w content) = (w ≡ v) × (txn_of content ≡ txn)
 IsUndoOf v txn (finish w actor commit) = ⊥
 IsUndoOf v txn (cut w front) = ⊥
 
+-- the step that undoes the first of the rest
 first_undo : (v : ℕ) (state : State) (txn : TxnId) (rest : List LogEntry) → rest_to_undo state.log txn ≡ rest → EachStep (IsUndoOf v txn) (step_undoing v state rest)
 first_undo v state txn [] is = tt
 first_undo v state txn (first ∷ others) is =
     let heads = first_of_rest_is state.log txn first others is in
     ((refl, txn_of-undo_of first.content first.number _ ∙ same_txn-true _ _ (and_parts _ _ heads.left).0), tt)
 
+-- each step of a rollback undoes a write of its transaction
 undos_are : (v : ℕ) (rest : List LogEntry) (state : State) (txn : TxnId) → EachStep (IsUndoOf v txn) (undo_steps v state txn rest)
 undos_are v [] state txn = tt
 undos_are v (entry ∷ rest) state txn =
     each_both (IsUndoOf v txn) (step_undoing v state (rest_to_undo state.log txn)) (undo_steps v (after_undo state txn) txn rest)
     (first_undo v state txn (rest_to_undo state.log txn) refl) (undos_are v rest (after_undo state txn) txn)
 
+-- to undo is no cut
 undo_no_cut : (v : ℕ) (txn : TxnId) (step : Step) → IsUndoOf v txn step → IsNoCut step
 undo_no_cut v txn (undo w content) is = tt
 undo_no_cut v txn (carry_out actor place op) is = absurd is
@@ -175,6 +140,7 @@ undo_no_cut v txn (join actor) is = absurd is
 undo_no_cut v txn (finish w actor commit) is = absurd is
 undo_no_cut v txn (cut w front) is = absurd is
 
+-- it breaks that transaction alone
 undo_breaks : (v : ℕ) (txn : TxnId) (u : ℕ) (other : TxnId) (step : Step) → IsUndoOf v txn step → Breaks u other step → (u ≡ v) × (other ≡ txn)
 undo_breaks v txn u other (undo w content) is breaks = (breaks.0 ∙ is.0, breaks.1 ∙ is.1)
 undo_breaks v txn u other (carry_out actor place op) is breaks = absurd is
@@ -184,6 +150,7 @@ undo_breaks v txn u other (join actor) is breaks = absurd is
 undo_breaks v txn u other (finish w actor commit) is breaks = absurd is
 undo_breaks v txn u other (cut w front) is breaks = absurd is
 
+-- it aborts that transaction alone
 undo_aborts : (v : ℕ) (txn : TxnId) (u : ℕ) (other : TxnId) (step : Step) → IsUndoOf v txn step → Aborts u other step → other ≡ txn
 undo_aborts v txn u other (undo w content) is aborts = aborts.1 ∙ is.1
 undo_aborts v txn u other (carry_out actor place op) is aborts = absurd is
@@ -193,6 +160,7 @@ undo_aborts v txn u other (join actor) is aborts = absurd is
 undo_aborts v txn u other (finish w actor commit) is aborts = absurd is
 undo_aborts v txn u other (cut w front) is aborts = absurd is
 
+-- and nobody joins by it
 undo_joins : (v : ℕ) (txn other : TxnId) (step : Step) → IsUndoOf v txn step → Joins other step → ⊥
 undo_joins v txn other (undo w content) is joins = joins
 undo_joins v txn other (carry_out actor place op) is joins = is
@@ -204,61 +172,70 @@ undo_joins v txn other (cut w front) is joins = is
 
 -- ---- the steps of each kind of event
 
-module _ (nodes : ℕ) (ledger : Ledger) where
-  idle_turn : IsTurn nodes ledger []
-  idle_turn = record { no_cut = tt; ends = λ u txn none. absurd none; outside = λ u txn none. absurd none; unended = λ txn none. absurd none }
+module _ (nodes : ℕ) (Lost : TxnId → Type 0) (ledger : Ledger) where
+  -- no step
+  idle_turn : IsTurn nodes Lost ledger []
+  idle_turn = record { no_cut = tt; ends = λ u txn none. absurd none; lost = λ u txn none. absurd none; unended = λ txn none. absurd none }
 
-  asked_turn : (refused : Option TxnId) (txn : TxnId) (place : Place) (op : Op) → IsTurn nodes ledger (step_asked refused (carry_out txn place op))
+  -- an operation, or none
+  asked_turn : (refused : Option TxnId) (txn : TxnId) (place : Place) (op : Op) → IsTurn nodes Lost ledger (step_asked refused (carry_out txn place op))
   asked_turn (Some holder) txn place op = idle_turn
   asked_turn None txn place op = record {
     no_cut = (tt, tt);
     ends = λ u other some. elim some [ inl none ↦ absurd none | inr none ↦ absurd none ];
-    outside = λ u other some. elim some [ inl none ↦ absurd none | inr none ↦ absurd none ];
+    lost = λ u other some. elim some [ inl none ↦ absurd none | inr none ↦ absurd none ];
     unended = λ other some. elim some [ inl none ↦ absurd none | inr none ↦ absurd none ];
   }
 
-  prepared_turn : (v : ℕ) (txn : TxnId) → IsTurn nodes ledger (prepare v txn ∷ [])
+  -- a Prepared
+  prepared_turn : (v : ℕ) (txn : TxnId) → IsTurn nodes Lost ledger (prepare v txn ∷ [])
   prepared_turn v txn = record {
     no_cut = (tt, tt);
     ends = λ u other some. elim some [ inl none ↦ absurd none | inr none ↦ absurd none ];
-    outside = λ u other some. elim some [ inl none ↦ absurd none | inr none ↦ absurd none ];
+    lost = λ u other some. elim some [ inl none ↦ absurd none | inr none ↦ absurd none ];
     unended = λ other some. elim some [ inl none ↦ absurd none | inr none ↦ absurd none ];
   }
 
-  committed_turn : (v : ℕ) (txn : TxnId) → ((u : ℕ) → u < nodes → has_ended (ledger.logs u) txn ≡ false) → IsTurn nodes ledger (commit_steps v txn)
-  committed_turn v txn unended = record {
-    no_cut = (tt, (tt, tt));
-    ends = λ u other some. elim some [ inl none ↦ absurd none | inr more ↦ elim more [ inl none ↦ absurd none | inr none ↦ absurd none ] ];
-    outside = λ u other some. elim some [ inl none ↦ absurd none | inr more ↦ elim more [ inl none ↦ absurd none | inr none ↦ absurd none ] ];
-    unended = λ other some. elim some [
-      | inl none ↦ absurd none
-      | inr more ↦ elim more [ inl same ↦ λ u below. ap (has_ended (ledger.logs u)) same ∙ unended u below | inr none ↦ absurd none ]
-    ];
+  -- a Decide
+  decided_turn : (v : ℕ) (txn : TxnId) → IsTurn nodes Lost ledger (decision_steps v txn)
+  decided_turn v txn = record {
+    no_cut = (tt, tt);
+    ends = λ u other some. elim some [ inl none ↦ absurd none | inr none ↦ absurd none ];
+    lost = λ u other some. elim some [ inl none ↦ absurd none | inr none ↦ absurd none ];
+    unended = λ other some. elim some [ inl none ↦ absurd none | inr none ↦ absurd none ];
   }
 
-  finished_turn : (v : ℕ) (txn : TxnId) → IsTurn nodes ledger (finish v txn true ∷ [])
+  -- a transaction that has not ended becomes a member
+  joined_turn : (txn : TxnId) → ((u : ℕ) → u < nodes → has_ended (ledger.logs u) txn ≡ false) → IsTurn nodes Lost ledger (join txn ∷ [])
+  joined_turn txn unended = record {
+    no_cut = (tt, tt);
+    ends = λ u other some. elim some [ inl none ↦ absurd none | inr none ↦ absurd none ];
+    lost = λ u other some. elim some [ inl none ↦ absurd none | inr none ↦ absurd none ];
+    unended = λ other some. elim some [ inl same ↦ λ u below. ap (has_ended (ledger.logs u)) same ∙ unended u below | inr none ↦ absurd none ];
+  }
+
+  -- an End with commit
+  finished_turn : (v : ℕ) (txn : TxnId) → IsTurn nodes Lost ledger (finish v txn true ∷ [])
   finished_turn v txn = record {
     no_cut = (tt, tt);
     ends = λ u other some. some;
-    outside = λ u other some. elim some [ inl is ↦ absurd (true≢false is.1.1) | inr none ↦ absurd none ];
+    lost = λ u other some. elim some [ inl is ↦ absurd (true≢false is.1.1) | inr none ↦ absurd none ];
     unended = λ other some. elim some [ inl none ↦ absurd none | inr none ↦ absurd none ];
   }
 
-  aborted_turn : (v : ℕ) (txn : TxnId) (undos : List Step) → EachStep (IsUndoOf v txn) undos → is_among txn ledger.history ≡ false →
-      IsTurn nodes ledger (undos ++ finish v txn false ∷ [])
-  aborted_turn v txn undos each out = record {
+  -- a rollback, and an End without commit
+  aborted_turn : (v : ℕ) (txn : TxnId) (undos : List Step) → EachStep (IsUndoOf v txn) undos → Lost txn →
+      IsTurn nodes Lost ledger (undos ++ finish v txn false ∷ [])
+  aborted_turn v txn undos each lost = record {
     no_cut = each_both IsNoCut undos (finish v txn false ∷ []) (each_weaker (IsUndoOf v txn) IsNoCut (undo_no_cut v txn) undos each) (tt, tt);
     ends = λ u other some. some_back (Ends u other) undos (finish v txn false ∷ []) (elim (some_either (Breaks u other) undos (finish v txn false ∷ []) some) [
       | inl front ↦ inl (some_each (IsUndoOf v txn) (Breaks u other) ((u ≡ v) × (other ≡ txn)) (undo_breaks v txn u other) undos each front)
       | inr back ↦ back
     ]);
-    outside = λ u other some. (
-      ap (λ name. is_among name ledger.history) (elim (some_either (Aborts u other) undos (finish v txn false ∷ []) some) [
-        | inl front ↦ some_each (IsUndoOf v txn) (Aborts u other) (other ≡ txn) (undo_aborts v txn u other) undos each front
-        | inr back ↦ elim back [ inl is ↦ is.1.0 | inr none ↦ absurd none ]
-      ]) ∙ out,
-      nobody other,
-    );
+    lost = λ u other some. subst Lost (sym (elim (some_either (Aborts u other) undos (finish v txn false ∷ []) some) [
+      | inl front ↦ some_each (IsUndoOf v txn) (Aborts u other) (other ≡ txn) (undo_aborts v txn u other) undos each front
+      | inr back ↦ elim back [ inl is ↦ is.1.0 | inr none ↦ absurd none ]
+    ])) lost;
     unended = λ other some. absurd (nobody other some);
   }
     where
@@ -268,76 +245,79 @@ module _ (nodes : ℕ) (ledger : Ledger) where
         | inr back ↦ elim back [ inl none ↦ none | inr none ↦ none ]
       ]
 
--- ---- a message comes
+-- ---- an event of the system
 
-module _ (shape : Shape) (size : IsClusterSize shape.nodes shape.spares) (world : ReplicaWorld) (ledger : Ledger) (is : IsLedgerOf shape world ledger)
-    (commits : CommitsWhole shape world) where
-  -- a transaction is committed whose controller has it open
-  commit_turn : (v : ℕ) (txn : TxnId) → IsOfSession txn → v ≡ home_in shape.nodes txn →
-      (entry : Entry) × (entry_of (world.replicas v).control txn ≡ Some entry) → IsTurn shape.nodes ledger (commit_steps v txn)
-  commit_turn v txn own mine found =
-      let opened : entry_in shape.nodes world txn ≡ Some found.0 = subst (λ w. entry_of (world.replicas w).control txn ≡ Some found.0) mine found.1 in
-      committed_turn shape.nodes ledger v txn (λ u below. ap (λ (log : List LogEntry). has_ended log txn) (is.logs u below)
-      ∙ open_unended shape world txn found.0 own commits opened u below)
+module _ (shape : Shape) (size : IsClusterSize shape.nodes shape.spares) (world : ReplicaWorld) (ledger : Ledger) (commits : CommitsWhole shape world) where
+  -- the steps are a turn of the ledger
+  abbrev IsTurnHere : List Step → Type 0
+  IsTurnHere = IsTurn shape.nodes (IsLost shape.nodes world) ledger
+
+  idle : IsTurnHere []
+  idle = idle_turn shape.nodes (IsLost shape.nodes world) ledger
 
   -- an end comes
-  end_turn : (v : ℕ) (txn : TxnId) (commit : Bool) → is_among txn world.history ≡ commit →
-      IsTurn shape.nodes ledger (finish_steps v (world.replicas v).part txn commit)
-  end_turn v txn true member = finished_turn shape.nodes ledger v txn
-  end_turn v txn false member =
-      aborted_turn shape.nodes ledger v txn (undo_steps v (world.replicas v).part txn (rest_to_undo (world.replicas v).part.log txn))
-      (undos_are v (rest_to_undo (world.replicas v).part.log txn) (world.replicas v).part txn) (ap (is_among txn) is.history ∙ member)
+  end_turn : (v : ℕ) (txn : TxnId) (commit : Bool) (rest : List Content) → v < shape.nodes → Lives shape world txn →
+      world.mail (home_in shape.nodes txn) v ≡ Finish v txn commit ∷ rest → IsTurnHere (finish_steps v (world.replicas v).part txn commit)
+  end_turn v txn true rest below lives here = finished_turn shape.nodes (IsLost shape.nodes world) ledger v txn
+  end_turn v txn false rest below lives here =
+      aborted_turn shape.nodes (IsLost shape.nodes world) ledger v txn (undo_steps v (world.replicas v).part txn (rest_to_undo (world.replicas v).part.log txn))
+      (undos_are v (rest_to_undo (world.replicas v).part.log txn) (world.replicas v).part txn) (ending_lost shape world txn v below lives rest here)
 
   -- any message to a replica
   message_turn : (from to : ℕ) (content : Content) (rest : List Content) (mark : Bool) → world.mail from to ≡ content ∷ rest → to < shape.nodes →
-      IsAddressed shape.nodes from to content →
-      Fits shape.nodes (world.replicas to) content → IsTurn shape.nodes ledger (message_steps to (world.replicas to) content mark)
-  message_turn from to (Command w txn number what) rest mark here below addressed fits =
-      cond_both (has_decide (command_acts (world.replicas to).control txn number what)) (commit_steps to txn) [] (IsTurn shape.nodes ledger)
-      (λ decides. commit_turn to txn addressed.session (addressed.receiver ∙ addressed.node)
-      (decides_open (world.replicas to).control txn number what fits.comes decides))
-      (λ none. idle_turn shape.nodes ledger)
-  message_turn from to (Vote w txn) rest mark here below addressed fits =
-      cond_both (counts_vote (world.replicas to).control w txn && is_last_vote (world.replicas to).control w txn) (commit_steps to txn) []
-      (IsTurn shape.nodes ledger)
-      (λ last. commit_turn to txn addressed.session addressed.receiver (counts_open (entry_of (world.replicas to).control txn) w (and_parts _ _ last).0))
-      (λ more. idle_turn shape.nodes ledger)
-  message_turn from to (Ask w txn number table key op) rest true here below addressed fits = idle_turn shape.nodes ledger
-  message_turn from to (Ask w txn number table key op) rest false here below addressed fits = asked_turn shape.nodes ledger
-      (refusing (world.replicas to).part txn (table, key) op) txn (table, key) op
-  message_turn from to (Prepare w txn) rest mark here below addressed fits = prepared_turn shape.nodes ledger to txn
-  message_turn from to (Finish w txn commit) rest mark here below addressed fits =
-      cond_both (is_open (world.replicas to).part.log txn) (finish_steps to (world.replicas to).part txn commit) [] (IsTurn shape.nodes ledger)
-      (λ opened.
-      let own : (nat_eq to to && same_txn txn txn) ≡ true = and_from _ _ (eq-eqb to to refl) (same_txn-itself txn) in
-      let waits : world.mail (home_in shape.nodes txn) to ≡ Finish to txn commit ∷ rest
-      = ap (λ g. world.mail g to) (sym addressed.giver) ∙ here ∙ ap (λ u. Finish u txn commit ∷ rest) (sym addressed.receiver) in
-      end_turn to txn commit (finish_stands shape world txn to below (commits.lives txn addressed.session) commit rest waits own).1)
-      (λ none. idle_turn shape.nodes ledger)
-  message_turn from to (Decision w txn commit) rest mark here below addressed fits = absurd addressed
-  message_turn from to (Outcome txn number outcome) rest mark here below addressed fits = idle_turn shape.nodes ledger
-  message_turn from to (Answer w txn number reply) rest mark here below addressed fits = idle_turn shape.nodes ledger
-  message_turn from to Bare rest mark here below addressed fits = idle_turn shape.nodes ledger
-  message_turn from to (Inquire w txn) rest mark here below addressed fits = idle_turn shape.nodes ledger
-  message_turn from to (Log w number entry) rest mark here below addressed fits = idle_turn shape.nodes ledger
-  message_turn from to (LogAck w number) rest mark here below addressed fits = idle_turn shape.nodes ledger
-  message_turn from to (Repair w other) rest mark here below addressed fits = idle_turn shape.nodes ledger
-  message_turn from to (Records w index records) rest mark here below addressed fits = idle_turn shape.nodes ledger
-  message_turn from to (Names w index last low txns) rest mark here below addressed fits = idle_turn shape.nodes ledger
-  message_turn from to (CopyAck w index) rest mark here below addressed fits = idle_turn shape.nodes ledger
+      IsAddressed shape.nodes from to content → IsTurnHere (message_steps to (world.replicas to) content mark)
+  message_turn from to (Command w txn number what) rest mark here below addressed =
+      cond_both (has_decide (command_acts (world.replicas to).control txn number what)) (decision_steps to txn) [] IsTurnHere
+      (λ decides. decided_turn shape.nodes (IsLost shape.nodes world) ledger to txn) (λ none. idle)
+  message_turn from to (Vote w txn) rest mark here below addressed =
+      cond_both (counts_vote (world.replicas to).control w txn && is_last_vote (world.replicas to).control w txn) (decision_steps to txn) [] IsTurnHere
+      (λ last. decided_turn shape.nodes (IsLost shape.nodes world) ledger to txn) (λ more. idle)
+  message_turn from to (Ask w txn number table key op) rest true here below addressed = idle
+  message_turn from to (Ask w txn number table key op) rest false here below addressed =
+      asked_turn shape.nodes (IsLost shape.nodes world) ledger (refusing (world.replicas to).part txn (table, key) op) txn (table, key) op
+  message_turn from to (Prepare w txn) rest mark here below addressed = prepared_turn shape.nodes (IsLost shape.nodes world) ledger to txn
+  message_turn from to (Finish w txn commit) rest mark here below addressed =
+      cond_both (is_open (world.replicas to).part.log txn) (finish_steps to (world.replicas to).part txn commit) [] IsTurnHere
+      (λ opened. end_turn to txn commit rest below (commits.lives txn addressed.session)
+      (ap (λ g. world.mail g to) (sym addressed.giver) ∙ here ∙ ap (λ u. Finish u txn commit ∷ rest) (sym addressed.receiver)))
+      (λ none. idle)
+  message_turn from to (Decision w txn commit) rest mark here below addressed = absurd addressed
+  message_turn from to (Outcome txn number outcome) rest mark here below addressed = idle
+  message_turn from to (Answer w txn number reply) rest mark here below addressed = idle
+  message_turn from to Bare rest mark here below addressed = idle
+  message_turn from to (Inquire w txn) rest mark here below addressed = idle
+  message_turn from to (Log w number entry) rest mark here below addressed = idle
+  message_turn from to (LogAck w number) rest mark here below addressed = idle
+  message_turn from to (Repair w other) rest mark here below addressed = idle
+  message_turn from to (Records w index records) rest mark here below addressed = idle
+  message_turn from to (Names w index last low txns) rest mark here below addressed = idle
+  message_turn from to (CopyAck w index) rest mark here below addressed = idle
 
   -- each event that may happen
-  pub event_turn : (event : QueueEvent) → IsSoundWorld shape world → MayReplicas world event → IsTurn shape.nodes ledger (event_steps world event)
+  system_turn : (event : QueueEvent) → IsSoundWorld shape world → MayReplicas world event → IsTurnHere (event_steps world event)
   unfolding event_steps
-  event_turn (deliver from to mark) sound (content, rest, here) =
+  system_turn (deliver from to mark) sound (content, rest, here) =
       let addressed : IsAddressed shape.nodes from to content = first_addressed shape world from to content rest sound here in
-      subst (λ contents. IsTurn shape.nodes ledger (first_steps world to mark contents)) (sym here)
-      (cond_both (eqb to FRONT) [] (message_steps to (world.replicas to) content mark) (IsTurn shape.nodes ledger)
-      (λ at_front. idle_turn shape.nodes ledger)
-      (λ elsewhere.
-      let node : to ≢ FRONT = eqb-false to FRONT elsewhere in
-      message_turn from to content rest mark here (receiver_below shape.nodes from to content size.counted node addressed) addressed
-      (fits_replica shape world from to content elsewhere (events_fit shape world (deliver from to mark) size sound (content, rest, here) content rest here))))
-  event_turn (take_line number text said) sound may = idle_turn shape.nodes ledger
-  event_turn quieten sound may = idle_turn shape.nodes ledger
-  event_turn nothing sound may = idle_turn shape.nodes ledger
+      subst (λ contents. IsTurnHere (first_steps world to mark contents)) (sym here)
+      (cond_both (eqb to FRONT) [] (message_steps to (world.replicas to) content mark) IsTurnHere
+      (λ at_front. idle)
+      (λ elsewhere. message_turn from to content rest mark here
+      (receiver_below shape.nodes from to content size.counted (eqb-false to FRONT elsewhere) addressed) addressed))
+  system_turn (take_line number text said) sound may = idle
+  system_turn quieten sound may = idle
+  system_turn nothing sound may = idle
+
+-- ---- an event of the firm system
+
+-- each event that may happen is a turn
+pub event_turn : (shape : Shape) (state : FirmWorld) (ledger : Ledger) (event : FirmEvent) → IsClusterSize shape.nodes shape.spares →
+    IsSoundWorld shape state.world → CommitsWhole shape state.world → IsLedgerOf shape state ledger →
+    IsSettling shape.nodes (IsLost shape.nodes state.world) ledger → MayFirm state event →
+    IsTurn shape.nodes (IsLost shape.nodes state.world) ledger (firm_steps state event)
+unfolding firm_steps
+event_turn shape state ledger (happens event) size sound commits is settling may = system_turn shape size state.world ledger commits event sound may.0
+event_turn shape state ledger (reorder mail) size sound commits is settling may = idle_turn shape.nodes (IsLost shape.nodes state.world) ledger
+event_turn shape state ledger (firmly txn) size sound commits is settling may =
+    joined_turn shape.nodes (IsLost shape.nodes state.world) ledger txn
+    (outside_unended shape.nodes (IsLost shape.nodes state.world) ledger settling txn (ap (is_among txn) is.history ∙ may.1)
+    (λ lost. both_ways _ lost.2 may.0))

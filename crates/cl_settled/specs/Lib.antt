@@ -1,3 +1,2 @@
-pub mod Replicas
 pub mod Settled
 pub mod Laws

@@ -1,11 +1,10 @@
-//! What holds of the replicas of every run. Each function does nothing: its contract is a law of the definitions.
-ghost use Rattle.cl_settled.specs.Laws.{EachHasReplica, ReplicasAgree, HistoriesGoOn, LogsGoOn, UnbrokenReplay, BrokenStayOut};
+//! What holds of the replicas of every firm run. Each function does nothing: its contract is a law of the definitions.
+ghost use Rattle.cl_settled.specs.Laws.{ReplicasAgree, HistoriesGoOn, LogsGoOn, UnbrokenReplay, BrokenStayOut};
 
-/// After every run each virtual node has a replica whose log settles to the map after the history. Its store and its locks
+/// After every firm run the log of each replica settles to the map after the history. Its store and its locks
 /// are those of its log, and no two of its locks conflict. A member holds its locks until its End, and is never undone.
 pub fn replicas_agree_with_history()
-    ensures each { EachHasReplica }
-    ensures agree { ReplicasAgree }
+    ensures { ReplicasAgree }
 {}
 
 /// The history and the logs of a longer run begin with those of the run: what was decided stays decided.

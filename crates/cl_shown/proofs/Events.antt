@@ -27,8 +27,10 @@ use Rattle.cl_serial.specs.Transcript.{TranscriptEntry, fed, written, quiet, fed
 use Rattle.cl_serial.proofs.Gathered.{gather-push, fed_lines-fed, fed_lines-written}
 use Rattle.cl_shown.proofs.Entries.{IsWell, well_line, well_quiet, well_refused}
 use Rattle.cl_shown.proofs.Fronts.{printed_on, turns_well, heard_well, idle_at}
+use Rattle.cl_shown.specs.Laws.{lines_of_firm}
 use Rattle.cl_steps.specs.Steps.{nothing_done}
 use Rattle.cl_steps.specs.declared.actors.TheConstants.{FRONT}
+use Rattle.cl_system.specs.Firm.{happens}
 use Rattle.cl_system.specs.Replicas.{ReplicaWorld, own_primary, nothing_noted, with_way, front_acts, replica_acts, after_message, after_first, after_replica_event, MayReplicas}
 use Rattle.cl_system.specs.Roles.{IsOfSession, IsAddressed}
 use Rattle.cl_told.specs.Told.{IsTold, SessionsAreTold, IsOutcomeOf, pending, told_session}
@@ -42,11 +44,6 @@ use Rattle.cl_types.specs.declared.operations.TxnId.{TxnId}
 use Rattle.cl_wire.specs.Message.{Content, Outcome}
 
 -- ---- the lines that are fed
-
--- the line that an event feeds, with its number
-abbrev pub taken_in : QueueEvent → List (ℕ × List ℕ)
-taken_in (take_line number text said) = (number, text) ∷ []
-taken_in other = []
 
 -- what is printed feeds no line
 printed_feeds : (outs : List Out) (transcript : List TranscriptEntry) → fed_lines (printed_on transcript outs) ≡ fed_lines transcript
@@ -93,7 +90,7 @@ module _ (shape : Shape) where
 
   -- an event
   pub event_feeds : (world : ReplicaWorld) (event : QueueEvent) →
-      fed_lines (after_replica_event shape world event).front.transcript ≡ fed_lines world.front.transcript ++ taken_in event
+      fed_lines (after_replica_event shape world event).front.transcript ≡ fed_lines world.front.transcript ++ lines_of_firm (happens event)
   unfolding after_replica_event fed_front
   event_feeds world (deliver from to mark) = first_feeds world from to mark (world.mail from to) ∙ sym (append-nil (fed_lines world.front.transcript))
   event_feeds world (take_line number text said) = line_feeds world.front number text (line_of text)

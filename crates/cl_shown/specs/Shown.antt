@@ -1,28 +1,11 @@
 -- What the transcript of a run shows by itself.
-use Rattle.std.specs.Prelude.{◌≡◌, ℕ, ◌≤◌, List, [], ◌∷◌, length, map, take, drop, fold}
-use Rattle.std.specs.List.{flat_map}
-use Rattle.cl_runs.specs.World.{Shape, Happening, feed, Run, world_after}
+use Rattle.std.specs.Prelude.{◌≡◌, ℕ, ◌≤◌, List, length, map, take, drop, fold}
 use Rattle.cl_serial.specs.Exchanges.{unanswered}
 use Rattle.cl_serial.specs.Serial.{AnswersFollow, AnswersFitTurns, RefusalsTrue}
 use Rattle.cl_serial.specs.Transactions.{Session, session_step}
 use Rattle.cl_serial.specs.Transcript.{TranscriptEntry, questions, answers, faulty_lines, refusals}
-use Rattle.cl_steps.specs.declared.actors.TheConstants.{FRONT}
-use Rattle.cl_system.specs.System.{transcript_in, system}
 use Rattle.cl_told.specs.Told.{told_session}
 use Rattle.cl_shown.specs.Sessions.{AreLawful}
-
--- the transcript of a run: that of its front
-abbrev pub transcript_after : Shape → Run → List TranscriptEntry
-transcript_after shape run = transcript_in ((world_after (system shape.nodes) shape run).actors FRONT).core
-
--- the line that an event feeds, with its number
-abbrev pub feeds_of : Happening → List (ℕ × List ℕ)
-feeds_of (feed number text said) = (number, text) ∷ []
-feeds_of other = []
-
--- the lines that a run feeds
-abbrev pub feeds_in : Run → List (ℕ × List ℕ)
-feeds_in run = flat_map (λ event. feeds_of event.0) run
 
 -- what holds of a transcript, whatever its history
 pub record IsWellShown (transcript : List TranscriptEntry) : Type 0 where

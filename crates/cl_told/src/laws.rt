@@ -1,5 +1,5 @@
 //! What the transcript shows. The function does nothing: its contract is a law of the definitions.
-ghost use Rattle.cl_told.specs.Laws.{ToldAtFirst, EventsKeepTold, RunsAreTold};
+ghost use Rattle.cl_told.specs.Laws.{ToldAtFirst, EventsKeepTold, ReorderKeepsTold, FirmRunsAreTold};
 
 /// The first command of a session that has no answer in the transcript is the one that is outstanding, wherever it is, and
 /// what was answered before it makes the session's state at the front. An outcome on its way is one of that command's kind.
@@ -7,5 +7,6 @@ ghost use Rattle.cl_told.specs.Laws.{ToldAtFirst, EventsKeepTold, RunsAreTold};
 pub fn transcripts_tell_sessions()
     ensures first { ToldAtFirst }
     ensures keeps { EventsKeepTold }
-    ensures runs { RunsAreTold }
+    ensures reorder { ReorderKeepsTold }
+    ensures runs { FirmRunsAreTold }
 {}

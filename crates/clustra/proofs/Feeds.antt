@@ -10,7 +10,7 @@ use Rattle.cl_schedule.specs.Course.{Candidate, Course, candidates, is_quiet, li
 use Rattle.cl_schedule.specs.Schedule.{to_happen}
 use Rattle.cl_schedule.specs.Turns.{AreTurns, FatesOf, IsTurn, events_of, first_course, is_handled, is_over, left_after, lines_in, next_events, taken}
 use Rattle.cl_schedule.specs.declared.setting.Setting.{Setting}
-use Rattle.cl_shown.specs.Shown.{feeds_in, feeds_of}
+use Rattle.cl_members.specs.Members.{feeds_in, feeds_of}
 use Rattle.cl_system.specs.System.{system}
 use Rattle.cl_wire.specs.Message.{Message}
 use Rattle.cl_world.specs.Running.{happened}

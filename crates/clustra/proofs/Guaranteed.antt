@@ -2,7 +2,8 @@
 use Rattle.std.proofs.Common.{◌≡◌, ◌+◌, ℕ, ◌<◌, ◌==◌, Bool, is_some, inl, inr, List, [], ◌∷◌, ◌++◌, length, get_or, Option, None, IsSome, refl, sym, ap, subst, ◌∙◌, arith}
 use Rattle.std.proofs.lemmas.Bool.{and_parts}
 use Rattle.std.proofs.lemmas.List.{append-nil}
-use Rattle.cl_causes.specs.Laws.{RunsNameTrueCauses}
+use Rattle.cl_guarantee.specs.Laws.{RunsAreSerializable, ReplicasAgree, RunsNameTrueCauses, LinesAreFed, RestAnswersAll}
+use Rattle.cl_members.specs.Members.{feeds_in, history_after, transcript_after}
 use Rattle.cl_node.specs.declared.machine.Node.{Node}
 use Rattle.cl_roster.specs.Roster.{IsClusterSize}
 use Rattle.cl_runs.specs.World.{IsRun, Run, Shape, quiet}
@@ -12,11 +13,6 @@ use Rattle.cl_schedule.specs.declared.setting.Setting.{Setting}
 use Rattle.cl_serial.specs.Bytes.{FeedsFirstLines, lines_of}
 use Rattle.cl_serial.specs.Serial.{EveryLineAnswered, Serializable}
 use Rattle.cl_serial.specs.Transcript.{TranscriptEntry, fed_lines, transcript_of}
-use Rattle.cl_served.specs.Laws.{RunsAreSerializable}
-use Rattle.cl_settled.specs.Laws.{ReplicasAgree}
-use Rattle.cl_settled.specs.Replicas.{history_after}
-use Rattle.cl_shown.specs.Laws.{LinesAreFed, RestAnswersAll}
-use Rattle.cl_shown.specs.Shown.{feeds_in, transcript_after}
 use Rattle.cl_system.specs.System.{system}
 use Rattle.cl_types.specs.AppendOnlyList.{entries}
 use Rattle.cl_types.specs.declared.operations.TxnId.{TxnId}

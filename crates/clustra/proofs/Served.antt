@@ -11,7 +11,7 @@ use Rattle.cl_schedule.specs.declared.setting.Finish.{Finish}
 use Rattle.cl_schedule.specs.declared.setting.Finish.TheVariants.{Quiet, TurnsMade}
 use Rattle.cl_schedule.specs.declared.setting.Setting.{Setting}
 use Rattle.cl_serial.specs.Transcript.{TranscriptEntry, full_text}
-use Rattle.cl_shown.specs.Shown.{transcript_after}
+use Rattle.cl_members.specs.Members.{transcript_after}
 use Rattle.cl_types.specs.declared.answers.Refused.{Refused}
 use Rattle.cl_types.specs.declared.answers.Refused.TheVariants.{Spent}
 use Rattle.cl_wire.specs.Message.{Message}

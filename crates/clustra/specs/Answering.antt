@@ -2,7 +2,7 @@
 use Rattle.std.specs.Prelude.{◌≡◌, ◌⊎◌, ◌↔◌, ℕ, Bool, if◌then◌else◌, List, [], Option}
 use Rattle.cl_runs.specs.World.{Run}
 use Rattle.cl_schedule.specs.declared.setting.Setting.{Setting}
-use Rattle.cl_shown.specs.Shown.{transcript_after}
+use Rattle.cl_members.specs.Members.{transcript_after}
 use Rattle.cl_world.specs.Running.{IsLeftOf}
 use Rattle.cl_world.specs.World.{IsWorldOf, IsWhole}
 use Rattle.cl_world.specs.declared.world.World.{World}

@@ -1,15 +1,14 @@
 -- How a run ends: what it did with its source and its sink, and what is kept of it.
 use Rattle.std.specs.Prelude.{◌≡◌, ℕ, ◌<◌, ◌≤◌, ◌⊎◌, Bool, List, [], ◌++◌, Option, None, IsSome, length, slice_index_or}
 use Rattle.std.specs.Io.KnownBytes.{IsAtEnd}
-use Rattle.cl_causes.specs.Causes.{TrueCauses}
+use Rattle.cl_guarantee.specs.Causes.{TrueCauses}
 use Rattle.cl_io.specs.Faults.{one_more}
+use Rattle.cl_members.specs.Members.{transcript_after, history_after, IsReplicaAfter}
 use Rattle.cl_runs.specs.World.{Shape, Run, IsRun}
 use Rattle.cl_schedule.specs.declared.setting.Setting.{Setting}
 use Rattle.cl_serial.specs.Serial.{Serializable, EveryLineAnswered}
 use Rattle.cl_serial.specs.Transcript.{transcript_of}
-use Rattle.cl_settled.specs.Replicas.{history_after, IsReplicaAfter}
 use Rattle.cl_settled.specs.Settled.{AgreesWithHistory}
-use Rattle.cl_shown.specs.Shown.{transcript_after}
 use Rattle.cl_system.specs.System.{system}
 use Rattle.cl_types.specs.AppendOnlyList.{entries}
 use Rattle.cl_vnode.specs.Replica.{ReplicaState}

@@ -1,0 +1,148 @@
+-- The guarantee over every run of the cluster, by the firm run that it is.
+use Rattle.std.proofs.Common.{◌≡◌, ℕ, ◌≤◌, List, [], ◌∷◌, ◌++◌, Option, sym, ap, ◌∙◌, subst, subst₂}
+use Rattle.std.specs.Option.{unwrap_or}
+use Rattle.cl_causes.specs.Causes as causes
+use Rattle.cl_causes.specs.Causes.{IsAskOf, IsTrueCause}
+use Rattle.cl_causes.specs.Laws.{FirmRunsNameTrueCauses}
+use Rattle.cl_causes.specs.Short as short
+use Rattle.cl_guarantee.specs.Causes.{WasShort}
+use Rattle.cl_guarantee.specs.Laws.{RunsAreSerializable, EachHasReplica, ReplicasAgree, RunsNameTrueCauses, LinesAreFed, RestAnswersAll, HistoriesGoOn, LogsGoOn}
+use Rattle.cl_log.specs.LogEntry.{LogEntry}
+use Rattle.cl_members.specs.Laws.{RunsAreFirmRuns, EventsGoOn, RunsAreQuiet, MarksAreOfRuns}
+use Rattle.cl_members.specs.Events.{firm_events_of}
+use Rattle.cl_members.specs.Members.{transcript_after, history_after, IsReplicaAfter}
+use Rattle.cl_part.specs.State.{State}
+use Rattle.cl_roster.specs.Roster.{IsClusterSize}
+use Rattle.cl_runs.specs.World.{Cores, Shape, Run, EachMayHappen, IsEnabledWidely, after_event, first_world, IsWideRun}
+use Rattle.cl_runs.proofs.Runs.{runs_are_wide}
+use Rattle.cl_serial.specs.Exchanges.{Exchange}
+use Rattle.cl_serial.specs.Serial.{Serializable, EveryLineAnswered}
+use Rattle.cl_serial.specs.Transcript.{TranscriptEntry, fed_lines}
+use Rattle.cl_served.specs.Laws.{FirmRunsAreSerializable}
+use Rattle.cl_settled.specs.Laws as settled
+use Rattle.cl_settled.specs.Settled.{AgreesWithHistory}
+use Rattle.cl_shown.specs.Laws.{transcript_of_firm, FirmLinesAreFed, FirmRestAnswersAll}
+use Rattle.cl_system.specs.Firm.{firm_world_after, IsFirmRun}
+use Rattle.cl_system.specs.System.{Core, system}
+use Rattle.cl_types.specs.declared.answers.AbortCause.{AbortCause}
+use Rattle.cl_types.specs.declared.answers.AbortCause.TheVariants.{Conflict, Node, Client, Memory}
+use Rattle.cl_types.specs.declared.operations.TxnId.{TxnId}
+use Rattle.cl_vnode.specs.Replica.{ReplicaState}
+
+-- ---- first parts of a run
+
+each_before : {W E : Type 0} (May : W → E → Type 0) (next : W → E → W) (xs ys : List E) (state : W) → EachMayHappen May next (xs ++ ys) state → EachMayHappen May next xs state
+each_before May next [] ys state may = tt
+each_before May next (event ∷ xs) ys state may = (may.0, each_before May next xs ys (next state event) may.1)
+
+-- a run that a longer wide run begins with is wide
+wide_before : (cores : Cores Core) (shape : Shape) (run more : Run) → IsWideRun cores shape (run ++ more) → IsWideRun cores shape run
+unfolding IsWideRun
+wide_before cores shape run more wide = each_before (λ world event. IsEnabledWidely shape world event.0) (after_event cores) run more (first_world cores shape) wide
+
+-- causes are true by any other account of where memory was short that says as much
+cause_by : (transcript : List TranscriptEntry) (Short Other : TxnId → ℕ → Type 0) → ((name : TxnId) (replied : ℕ) → Short name replied → Other name replied) →
+    (name : TxnId) (asked : Exchange) (replied : ℕ) (cause : AbortCause) → IsTrueCause transcript Short name asked replied cause → IsTrueCause transcript Other name asked replied cause
+cause_by transcript Short Other says name asked replied (Conflict holder) is = is
+cause_by transcript Short Other says name asked replied (Node node) is = is
+cause_by transcript Short Other says name asked replied Client is = is
+cause_by transcript Short Other says name asked replied Memory is = says name replied is
+
+true_by : (transcript : List TranscriptEntry) (Short Other : TxnId → ℕ → Type 0) → ((name : TxnId) (replied : ℕ) → Short name replied → Other name replied) →
+    causes.TrueCauses transcript Short → causes.TrueCauses transcript Other
+true_by transcript Short Other says are session position cause stands =
+    let (number, asked, within, answered, is) = are session position cause stands in
+    (number, asked, within, answered, cause_by transcript Short Other says (record { session = session; number = number }) asked position cause is)
+
+-- ---- the transcript and the history
+
+module _ (firm : RunsAreFirmRuns) where
+  pub runs_are_serializable : FirmRunsAreSerializable → RunsAreSerializable
+  runs_are_serializable law shape run size wide =
+      let is = firm shape run size wide in
+      subst₂ Serializable (sym is.transcript) (sym is.history) (law shape (firm_events_of shape run) size is.firm)
+
+  pub lines_are_fed : FirmLinesAreFed → LinesAreFed
+  lines_are_fed law shape run size wide =
+      let is = firm shape run size wide in
+      ap fed_lines is.transcript ∙ law shape (firm_events_of shape run) size is.firm ∙ is.fed
+
+  pub rest_answers_all : FirmRestAnswersAll → RestAnswersAll
+  rest_answers_all law shape run size wide rests =
+      let is = firm shape run size wide in
+      subst EveryLineAnswered (sym is.transcript) (law shape (firm_events_of shape run) size is.firm (is.rests rests))
+
+  -- ---- replicas
+
+  pub each_has_replica : EachHasReplica
+  each_has_replica shape run size wide v below =
+      let part = (firm shape run size wide).parts v below in
+      (part.replica, part.after)
+
+  -- the replica of a virtual node is the one that has its part
+  part_is : (shape : Shape) (run : Run) (size : IsClusterSize shape.nodes shape.spares) (wide : IsWideRun (system shape.nodes) shape run) (v : ℕ) (replica : ReplicaState) →
+      IsReplicaAfter shape run v replica → replica.part ≡ ((firm_world_after shape (firm_events_of shape run)).world.replicas v).part
+  part_is shape run size wide v replica after =
+      let part = (firm shape run size wide).parts v after.below in
+      ap (λ (one : Option ReplicaState). (unwrap_or one replica).part) (sym after.has ∙ part.after.has) ∙ part.same
+
+  pub replicas_agree : settled.ReplicasAgree → ReplicasAgree
+  replicas_agree law shape run size wide v replica after =
+      let is = firm shape run size wide in
+      let agrees = law shape (firm_events_of shape run) size is.firm v after.below in
+      subst (λ (part : State). AgreesWithHistory (transcript_after shape run) (history_after shape run) shape.nodes v part) (sym (part_is shape run size wide v replica after))
+      (subst₂ (λ transcript history. AgreesWithHistory transcript history shape.nodes v ((firm_world_after shape (firm_events_of shape run)).world.replicas v).part)
+      (sym is.transcript) (sym is.history) agrees)
+
+  -- ---- longer runs
+
+  module _ (goes_on : EventsGoOn) where
+    -- the events of a longer run are those of the run and some more, and a firm run
+    longer_firm : (shape : Shape) (run more : Run) → IsClusterSize shape.nodes shape.spares → IsWideRun (system shape.nodes) shape (run ++ more) →
+        IsFirmRun shape (firm_events_of shape run ++ (goes_on shape run more).0)
+    longer_firm shape run more size wide = subst (IsFirmRun shape) (goes_on shape run more).1 (firm shape (run ++ more) size wide).firm
+
+    pub histories_go_on : settled.HistoriesGoOn → HistoriesGoOn
+    histories_go_on law shape run more size wide =
+        let rest = law shape (firm_events_of shape run) (goes_on shape run more).0 size (longer_firm shape run more size wide) in (
+          rest.0,
+          (firm shape (run ++ more) size wide).history ∙ ap (settled.firm_after shape) (goes_on shape run more).1 ∙ rest.1
+              ∙ ap (λ history. history ++ rest.0) (sym (firm shape run size (wide_before (system shape.nodes) shape run more wide)).history),
+        )
+
+    pub logs_go_on : settled.LogsGoOn → LogsGoOn
+    logs_go_on law shape run more v before after size wide was now =
+        let rest = law shape (firm_events_of shape run) (goes_on shape run more).0 v size (longer_firm shape run more size wide) was.below in (
+          rest.0,
+          ap (λ (part : State). part.log) (part_is shape (run ++ more) size wide v after now)
+              ∙ ap (λ events. settled.log_after shape events v) (goes_on shape run more).1 ∙ rest.1
+              ∙ ap (λ (log : List LogEntry). log ++ rest.0) (sym (ap (λ (part : State). part.log) (part_is shape run size (wide_before (system shape.nodes) shape run more wide) v before was))),
+        )
+
+  -- ---- causes
+
+  -- where memory was short in the firm run, it was so in the run
+  short_in_run : MarksAreOfRuns → (shape : Shape) (run : Run) → IsClusterSize shape.nodes shape.spares → IsWideRun (system shape.nodes) shape run → (name : TxnId) (replied : ℕ) →
+      short.WasShort shape (firm_events_of shape run) name replied → WasShort shape run name replied
+  short_in_run marks shape run size wide name replied h =
+      let mark = marks shape run h.front h.back h.from h.to size wide h.split in
+      let same : mark.packet.content ≡ h.content = (let a = h.head in let b = mark.head in cc) in
+      record {
+        front = mark.before;
+        back = mark.after;
+        actor = h.to;
+        id = mark.id;
+        packet = mark.packet;
+        split = mark.split;
+        handles = mark.handles;
+        asks = subst (IsAskOf name) (sym same) h.asks;
+        before = subst (λ n. n ≤ replied) (sym mark.written) h.before;
+      }
+
+  pub runs_name_true_causes : RunsAreQuiet → MarksAreOfRuns → FirmRunsNameTrueCauses → RunsNameTrueCauses
+  runs_name_true_causes quiet marks law shape run size is_run =
+      let wide = runs_are_wide (system shape.nodes) shape run is_run in
+      let is = firm shape run size wide in
+      subst (λ (transcript : List TranscriptEntry). causes.TrueCauses transcript (WasShort shape run)) (sym is.transcript)
+      (true_by (transcript_of_firm shape (firm_events_of shape run)) _ _ (short_in_run marks shape run size wide)
+      (law shape (firm_events_of shape run) size is.firm (quiet shape run size is_run)))

@@ -1,0 +1,33 @@
+//! What holds of every run of the cluster. Each function does nothing: its contract is a law of the definitions.
+ghost use Rattle.cl_guarantee.specs.Laws.{RunsAreSerializable, EachHasReplica, ReplicasAgree, RunsNameTrueCauses, LinesAreFed, RestAnswersAll, HistoriesGoOn, LogsGoOn};
+
+/// After every run the history explains the transcript, one transaction after another: whatever packets were lost, repeated
+/// or reordered, and wherever quiet moments stand.
+pub fn runs_are_serializable()
+    ensures { RunsAreSerializable }
+{}
+
+/// After every run each virtual node has a replica whose log settles to the map after the history. Its store and its locks
+/// are those of its log, and no two of its locks conflict. A member holds its locks until its End, and is never undone.
+pub fn replicas_agree_with_history()
+    ensures each { EachHasReplica }
+    ensures agree { ReplicasAgree }
+{}
+
+/// The history and the logs of a longer run begin with those of the run: what was decided stays decided.
+pub fn runs_keep_what_they_decided()
+    ensures histories { HistoriesGoOn }
+    ensures logs { LogsGoOn }
+{}
+
+/// Each reply ABORTED of a run names a true cause: CLIENT of ABORT, CONFLICT of an operation that conflicts with one of
+/// another transaction, MEMORY where a participant of the transaction found no memory.
+pub fn causes_are_true()
+    ensures { RunsNameTrueCauses }
+{}
+
+/// The transcript has the lines that the run was fed, in their order, and where the front is at rest, each has its answer.
+pub fn lines_are_answered()
+    ensures fed { LinesAreFed }
+    ensures rest { RestAnswersAll }
+{}

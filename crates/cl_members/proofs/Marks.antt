@@ -1,0 +1,250 @@
+-- A message that comes with the mark is one whose packet an event of the run with the mark handles.
+use Rattle.std.proofs.Common.{◌≡◌, ℕ, ◌-◌, Bool, true, false, cond, ◌⊎◌, inl, inr, List, [], ◌∷◌, ◌++◌, append_assoc, length, map, Option, Some, None}
+use Rattle.std.proofs.Common.{refl, sym, ap, ◌∙◌, subst}
+use Rattle.std.specs.List.{Contains}
+use Rattle.std.proofs.lemmas.Bool.{false≢true}
+use Rattle.std.proofs.lemmas.List.{append-nil}
+use Rattle.std.proofs.lemmas.List.Elements.{All-contains_itself}
+use Rattle.std.proofs.lemmas.List.Sums.{fold-append}
+use Rattle.cl_actor.specs.Acting.{is_now}
+use Rattle.cl_endpoint.specs.declared.received.Received.{Received}
+use Rattle.cl_endpoint.specs.declared.received.Received.TheVariants.{Now}
+use Rattle.cl_endpoint.specs.Endpoint.{received}
+use Rattle.cl_exchange.proofs.Runs.{runs_are_replica_runs}
+use Rattle.cl_exchange.specs.Laws.{IsReplicaRun}
+use Rattle.cl_link.proofs.Indices.{All-slice_get}
+use Rattle.cl_members.proofs.Cores.{transcript_is}
+use Rattle.cl_members.proofs.Longer.{holds_of_all, cores, world_of, replicas_after, event_after, firm_push, replicas_push, firm_after}
+use Rattle.cl_members.specs.Laws.{IsMarkedIn, MarksAreOfRuns}
+use Rattle.cl_members.specs.Events.{decided_in, firm_events_at, firm_events_of}
+use Rattle.cl_members.specs.Members.{transcript_after}
+use Rattle.cl_roster.specs.Roster.{IsClusterSize}
+use Rattle.cl_runs.proofs.Runs.{runs_go_on, accepted_is_head}
+use Rattle.cl_runs.specs.Laws.{IsHead}
+use Rattle.cl_runs.specs.Queues.{Tagged, contents_of, watched_after, queue_world_of, QueueEvent, deliver, nothing, event_on, queue_event_of, queue_events_of}
+use Rattle.cl_runs.specs.World.{Shape, Happening, handle, tick, feed, quiet, Run, packet_at, World}
+use Rattle.cl_runs.specs.World.{first_world, after_event, IsEnabledWidely, MayHandle, IsWideRun}
+use Rattle.cl_shown.specs.Laws.{transcript_of_firm}
+use Rattle.cl_system.specs.Firm.{FirmWorld, FirmEvent, happens, join, after_firm_event, first_firm_world, firm_world_after}
+use Rattle.cl_system.specs.Replicas.{Mail, ReplicaWorld, after_replica_event}
+use Rattle.cl_system.specs.System.{Core}
+use Rattle.cl_types.specs.declared.operations.TxnId.{TxnId}
+use Rattle.cl_wire.specs.Message.{Content, Message}
+
+-- ---- lists
+
+-- the first event of a list, or another one where it is empty
+first_or : FirmEvent → List FirmEvent → FirmEvent
+first_or other [] = other
+first_or other (event ∷ events) = event
+
+-- the events behind the first
+rest_of : List FirmEvent → List FirmEvent
+rest_of [] = []
+rest_of (event ∷ events) = events
+
+-- an event of two lists is one of the first, or one of the second
+abbrev IsOfEither : List FirmEvent → List FirmEvent → List FirmEvent → FirmEvent → List FirmEvent → Type 0
+IsOfEither events more front event back =
+    ((tail : List FirmEvent) × (events ≡ front ++ event ∷ tail)) ⊎ ((head : List FirmEvent) × (front ≡ events ++ head) × (more ≡ head ++ event ∷ back))
+
+-- so it is of any two lists
+of_either : (events more front : List FirmEvent) (event : FirmEvent) (back : List FirmEvent) → events ++ more ≡ front ++ event ∷ back →
+    IsOfEither events more front event back
+unfolding first_or rest_of
+of_either [] more front event back is = inr (front, refl, is)
+of_either (first ∷ events) more [] event back is = inl (events, ap (λ e. e ∷ events) (ap (first_or first) is))
+of_either (first ∷ events) more (other ∷ front) event back is =
+    let same : first ≡ other = ap (first_or first) is in
+    elim (of_either events more front event back (ap rest_of is)) [
+      | inl here ↦ inl (here.0, ap (λ e. e ∷ events) same ∙ ap (λ list. other ∷ list) here.1)
+      | inr there ↦ inr (there.0, ap (λ e. e ∷ front) (sym same) ∙ ap (λ list. first ∷ list) there.1, there.2)
+    ]
+
+-- none of those that join is an event of the system
+joins_only : (txns : List TxnId) (front : List FirmEvent) (event : QueueEvent) (back : List FirmEvent) → map join txns ≡ front ++ happens event ∷ back → ⊥
+unfolding rest_of
+joins_only [] [] event back is = absurd cc
+joins_only [] (other ∷ front) event back is = absurd cc
+joins_only (txn ∷ txns) [] event back is = absurd cc
+joins_only (txn ∷ txns) (other ∷ front) event back is = joins_only txns front event back (ap rest_of is)
+
+-- so that one stands first
+first_only : (here : QueueEvent) (txns : List TxnId) (front : List FirmEvent) (event : QueueEvent) (back : List FirmEvent) →
+    happens here ∷ map join txns ≡ front ++ happens event ∷ back → (front ≡ []) × (here ≡ event)
+unfolding first_or rest_of
+first_only here txns [] event back is = (refl, (let same : happens here ≡ happens event = ap (first_or (happens here)) is in cc))
+first_only here txns (other ∷ front) event back is = absurd (joins_only txns front event back (ap rest_of is))
+
+-- ---- one event more
+
+-- what is taken at once was received so
+now_from : (seen : Received) → is_now seen ≡ true → seen ≡ Now
+now_from Now is = refl
+now_from other is = absurd (false≢true is)
+
+-- the messages of a queue that begins with a packet's
+head_waits : (queue : List Tagged) (here : List Content) (m : Message) → contents_of queue ≡ here → (head : IsHead queue m) →
+    here ≡ m.content ∷ contents_of head.rest
+head_waits queue here m same head = sym same ∙ ap contents_of head.waits
+
+-- what is on its way, by equal actors
+moved_mail : (mail : Mail) (a b c d : ℕ) (list : List Content) → a ≡ c → b ≡ d → mail a b ≡ list → mail c d ≡ list
+moved_mail mail a b c d list first second is = ap (λ n. mail n d) (sym first) ∙ (ap (mail a) (sym second) ∙ is)
+
+-- an event of the firm system after those of a run
+written_after : (shape : Shape) (run : Run) (event : QueueEvent) →
+    transcript_of_firm shape (firm_events_of shape run ++ happens event ∷ []) ≡ (after_replica_event shape (replicas_after shape run) event).front.transcript
+unfolding firm_world_after after_firm_event
+written_after shape run event =
+    ap (λ (state : FirmWorld). state.world.front.transcript)
+    (fold-append (after_firm_event shape) (first_firm_world shape) (firm_events_of shape run) (happens event ∷ []))
+    ∙ ap (λ (state : FirmWorld). (after_replica_event shape state.world event).front.transcript) (firm_after shape run)
+
+-- an event of a run handles the packet whose message comes
+record IsHandled (shape : Shape) (run : Run) (event : Happening × Bool) (from to : ℕ) : Type 0 where
+  id : ℕ
+  packet : Message
+  rest : List Content
+  happened : event ≡ (handle to id, true)
+  handles : packet_at (world_of shape run) id ≡ Some packet
+  head : (replicas_after shape run).mail from to ≡ packet.content ∷ rest
+
+module _ (shape : Shape) (size : IsClusterSize shape.nodes shape.spares) where
+  -- what is left to be shown of a run
+  abbrev AreMarked : Run → Type 0
+  AreMarked run =
+      (front back : List FirmEvent) (from to : ℕ) → firm_events_of shape run ≡ front ++ happens (deliver from to true) ∷ back →
+      IsMarkedIn shape run front from to
+
+  -- no event is in the empty run
+  marked_first : AreMarked []
+  unfolding firm_events_of queue_events_of
+  marked_first front back from to is = absurd (joins_only [] front (deliver from to true) back is)
+
+  module _ (run : Run) (event : Happening × Bool) (longer : IsWideRun (cores shape) shape (run ++ event ∷ [])) where
+    -- the run, and what may happen after it
+    both : IsWideRun (cores shape) shape run × IsEnabledWidely shape (world_of shape run) event.0
+    both = (runs_go_on (cores shape) shape run event.0 event.1).enabled_widely.0 longer
+
+    -- the run is one of the replicas
+    replica_run : IsReplicaRun shape run
+    replica_run = runs_are_replica_runs shape run size both.0
+
+    -- what comes in an earlier event
+    marked_before : (front : List FirmEvent) (from to : ℕ) → IsMarkedIn shape run front from to → IsMarkedIn shape (run ++ event ∷ []) front from to
+    marked_before front from to is = record {
+      before = is.before;
+      after = is.after ++ event ∷ [];
+      id = is.id;
+      packet = is.packet;
+      rest = is.rest;
+      split = ap (λ list. list ++ event ∷ []) is.split ∙ append_assoc is.before ((handle to is.id, true) ∷ is.after) (event ∷ []);
+      handles = is.handles;
+      head = is.head;
+      written = is.written;
+    }
+
+    -- the head of a queue is the message of the packet that is accepted now
+    head_is : (actor id : ℕ) → event.0 ≡ handle actor id → (m : Message) → packet_at (world_of shape run) id ≡ Some m →
+        is_now (received ((world_of shape run).actors actor).endpoint m.from m.seq) ≡ true →
+        (rest : List Content) × ((replicas_after shape run).mail m.from actor ≡ m.content ∷ rest)
+    head_is actor id is m found now =
+        let packets : List Message = (world_of shape run).packets in
+        let handles : MayHandle shape (world_of shape run) actor id = subst (IsEnabledWidely shape (world_of shape run)) is both.1 in
+        let same : handles.packet ≡ m = (let emitted = handles.emitted in cc) in
+        let here : m.to ≡ actor = ap (λ (p : Message). p.to) (sym same) ∙ handles.addressed in
+        let emitted : Contains packets m = All-slice_get (Contains packets) packets (id - 1) m (All-contains_itself packets) found in
+        let head : IsHead ((queue_world_of (watched_after (cores shape) shape run)).queues m.from m.to) m
+        = accepted_is_head (cores shape) shape run size both.0 m emitted
+        (ap (λ n. received ((world_of shape run).actors n).endpoint m.from m.seq) here ∙ now_from _ now) in
+        let waits = head_waits _ _ m (replica_run.alike.mail m.from m.to) head in
+        (contents_of head.rest, subst (λ n. (replicas_after shape run).mail m.from n ≡ m.content ∷ contents_of head.rest) here waits)
+
+    -- what is left to be shown of what the event is for cores and queues
+    abbrev AreHandled : QueueEvent → Type 0
+    AreHandled here = (from to : ℕ) → here ≡ deliver from to true → IsHandled shape run event from to
+
+    -- a packet, taken at once or not
+    packet_handled : (actor id : ℕ) → event.0 ≡ handle actor id → (m : Message) → packet_at (world_of shape run) id ≡ Some m → (now : Bool) →
+        is_now (received ((world_of shape run).actors actor).endpoint m.from m.seq) ≡ now → AreHandled (cond now (deliver m.from actor event.1) nothing)
+    packet_handled actor id is m found false now from to delivers = absurd cc
+    packet_handled actor id is m found true now from to delivers =
+        let giver : m.from ≡ from = cc in
+        let receiver : actor ≡ to = cc in
+        let marked : event.1 ≡ true = cc in
+        let head = head_is actor id is m found now in
+        record {
+          id = id;
+          packet = m;
+          rest = head.0;
+          happened = ap (λ (happening : Happening). (happening, event.1)) is
+              ∙ ap (λ n. (handle n id, event.1)) receiver ∙ ap (λ mark. (handle to id, mark)) marked;
+          handles = found;
+          head = moved_mail (replicas_after shape run).mail m.from actor from to (m.content ∷ head.0) giver receiver head.1;
+        }
+
+    -- a packet, if there is one
+    event_handled : (actor id : ℕ) → event.0 ≡ handle actor id → (found : Option Message) → packet_at (world_of shape run) id ≡ found →
+        AreHandled (event_on (world_of shape run) actor event.1 found)
+    event_handled actor id is None found = λ from to delivers. absurd cc
+    event_handled actor id is (Some m) found =
+        packet_handled actor id is m found (is_now (received ((world_of shape run).actors actor).endpoint m.from m.seq)) refl
+
+    -- whatever happens
+    happening_handled : (happening : Happening) → event.0 ≡ happening → AreHandled (queue_event_of (world_of shape run) happening event.1)
+    unfolding queue_event_of
+    happening_handled (handle actor id) is = event_handled actor id is (packet_at (world_of shape run) id) refl
+    happening_handled (tick actor) is = λ from to delivers. absurd cc
+    happening_handled (feed number text said) is = λ from to delivers. absurd cc
+    happening_handled quiet is = λ from to delivers. absurd cc
+
+    -- what comes in this event
+    marked_here : (from to : ℕ) → event_after shape run event ≡ deliver from to true → IsMarkedIn shape (run ++ event ∷ []) (firm_events_of shape run) from to
+    marked_here from to is =
+        let handled : IsHandled shape run event from to = happening_handled event.0 refl from to is in
+        record {
+          before = run;
+          after = [];
+          id = handled.id;
+          packet = handled.packet;
+          rest = handled.rest;
+          split = ap (λ e. run ++ e ∷ []) handled.happened;
+          handles = handled.handles;
+          head = ap (λ (state : FirmWorld). state.world.mail from to) (firm_after shape run) ∙ handled.head;
+          written = ap length (
+              ap (λ e. transcript_after shape (run ++ e ∷ [])) (sym handled.happened)
+              ∙ transcript_is shape (run ++ event ∷ []) size longer
+              ∙ ap (λ (world : ReplicaWorld). world.front.transcript) (replicas_push shape run event)
+              ∙ ap (λ e. (after_replica_event shape (replicas_after shape run) e).front.transcript) is
+              ∙ sym (written_after shape run (deliver from to true)));
+        }
+
+    -- so it is of the run with this event
+    marked_more : AreMarked run → AreMarked (run ++ event ∷ [])
+    marked_more so front back from to is =
+        let replicas : ReplicaWorld = replicas_after shape run in
+        let comes : QueueEvent = event_after shape run event in
+        let either : IsOfEither (firm_events_of shape run) (firm_events_at shape replicas comes) front (happens (deliver from to true)) back
+        = of_either (firm_events_of shape run) (firm_events_at shape replicas comes) front (happens (deliver from to true)) back
+        (sym (firm_push shape run event) ∙ is) in
+        elim either [
+          | inl before ↦ marked_before front from to (so front before.0 from to before.1)
+          | inr here ↦
+              (let only = first_only comes (decided_in shape replicas comes) here.0 (deliver from to true) back here.2 in
+              let whole : firm_events_of shape run ≡ front
+              = sym (append-nil (firm_events_of shape run)) ∙ ap (λ list. firm_events_of shape run ++ list) (sym only.0) ∙ sym here.1 in
+              subst (λ list. IsMarkedIn shape (run ++ event ∷ []) list from to) whole (marked_here from to only.1))
+        ]
+
+  -- so it is of every wide run
+  every_marked : (run : Run) → IsWideRun (cores shape) shape run → AreMarked run
+  unfolding IsWideRun
+  every_marked run wide =
+      holds_of_all (λ (world : World Core) (event : Happening × Bool). IsEnabledWidely shape world event.0)
+      (after_event (cores shape)) (first_world (cores shape) shape)
+      AreMarked marked_more marked_first run wide
+
+-- the law
+pub marks_are_of_runs : MarksAreOfRuns
+marks_are_of_runs shape run front back from to size wide is = every_marked shape size run wide front back from to is
