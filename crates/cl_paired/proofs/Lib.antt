@@ -1,0 +1,11 @@
+pub mod Numbers
+pub mod Filters
+pub mod Calming
+pub mod Telling
+pub mod Seeing
+pub mod Appending
+pub mod Keeping
+pub mod Deciding
+pub mod Taking
+pub mod Acknowledging
+pub mod Starting
