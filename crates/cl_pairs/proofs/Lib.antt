@@ -1,0 +1,5 @@
+pub mod Logs
+pub mod Shipping
+pub mod Mail
+pub mod Keeping
+pub mod Streams

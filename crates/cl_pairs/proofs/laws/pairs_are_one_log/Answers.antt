@@ -1,0 +1,8 @@
+use Rattle.cl_pairs.proofs.Streams.{pairs_are_one_log, pairs_agree}
+use Rattle.cl_pairs.proofs.laws.pairs_are_one_log.Goals as goal
+
+pub returns-clause-log : goal.returns-clause-log
+returns-clause-log c = pairs_are_one_log
+
+pub returns-clause-agree : goal.returns-clause-agree
+returns-clause-agree c = pairs_agree
