@@ -1,0 +1,10 @@
+pub mod Beside
+pub mod Lists
+pub mod Mail
+pub mod Events
+pub mod Telling
+pub mod Decided
+pub mod Fits
+pub mod Kept
+pub mod Next
+pub mod Runs
