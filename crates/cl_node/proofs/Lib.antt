@@ -1,3 +1,4 @@
 pub mod Admitting
+pub mod Roles
 pub mod Sends
 pub mod Slots

@@ -1,12 +1,14 @@
 -- The replicas of a node, by virtual node.
-use Rattle.std.proofs.Common.{◌≡◌, ℕ, zero, suc, ◌<◌, ◌≤◌, nat_lt, Bool, true, false, if◌then◌else◌, List, [], ◌∷◌, length, Option, Some, None, Result, Ok, Err, IfOk, slice_index_or, slice_set, refl, sym, ◌∙◌, ap, subst, arith, length-set}
+use Rattle.std.proofs.Common.{◌≡◌, ℕ, zero, suc, ◌<◌, ◌≤◌, nat_lt, Bool, true, false, if◌then◌else◌, List, [], ◌∷◌, length, Option, Some, None, Result, Ok, Err, IfOk, replicate, slice_index_or, slice_set, refl, sym, ◌∙◌, ap, subst, arith, length-set}
+use Rattle.std.proofs.lemmas.Bool.Decides.{nat_tests}
 use Rattle.std.proofs.lemmas.List.{get_or_default, get_or-set_same, set-get_or}
 use Rattle.std.proofs.lemmas.Slice.Zip.{AllZip-long}
 use Rattle.std.specs.List.{AllZip, list_any}
 use Rattle.std.specs.Option.{option_map_or}
 use Rattle.cl_actor.specs.Core.{Noted, CoreStep, IsCoreStep}
 use Rattle.cl_node.specs.Addressing.{addressed}
-use Rattle.cl_node.specs.Node.{NodeState, no_replicas, first_node, replica_at, slot_step, is_slot_spent, delivered_for, delivered_node, is_delivery_spent, replica_for, unmoved, DeliveryFits}
+use Rattle.cl_node.specs.Members.{backed_up}
+use Rattle.cl_node.specs.Node.{NodeState, no_replicas, two_replicas, first_member, first_node, replica_at, replica_step, slot_step, is_slot_spent, delivered_for, delivered_node, is_delivery_spent, replica_for, unmoved, is_replica_spent, DeliveryFits, ReplicaFits}
 use Rattle.cl_node.specs.Slot.{IsReplicaAt, is_under_way}
 use Rattle.cl_node.specs.Marks.{slots_at}
 use Rattle.cl_post.specs.Steps.{IsSpentWhere}
@@ -17,10 +19,8 @@ use Rattle.cl_types.specs.declared.answers.Refused.{Refused}
 use Rattle.cl_types.specs.declared.answers.Refused.TheVariants.{NoMemory, Spent}
 use Rattle.cl_repair.specs.Modes.{ModesState}
 use Rattle.cl_vnode.specs.declared.vnode.Vnode.{Vnode}
-use Rattle.cl_vnode.specs.Inputs as inputs
-use Rattle.cl_vnode.specs.Inputs.{Fits, is_spent}
-use Rattle.cl_vnode.specs.Replica.{ReplicaState, first_replica, IsReplicaStateOf, is_busy, is_lasting}
-use Rattle.cl_vnode.specs.Step.{primary_in, stepped}
+use Rattle.cl_vnode.specs.Replica.{ReplicaState, IsReplicaStateOf, is_busy, is_lasting}
+use Rattle.cl_vnode.specs.Step.{primary_in}
 use Rattle.cl_vnode.proofs.States.{every_replica_has_state}
 use Rattle.cl_wire.specs.Message.{Content}
 
@@ -29,7 +29,8 @@ use Rattle.cl_wire.specs.Message.{Content}
 -- the step of a replica that is there
 pub handed : (noted : Noted) (vnode new : Vnode) (before : Option ReplicaState) (from : ℕ) (content : Content) (result : Result Steps Refused) →
     ((replica : ReplicaState) → IsReplicaStateOf vnode replica → IfOk result (λ steps.
-    let after = stepped (primary_in noted.nodes noted.entries) replica from content steps.short in IsReplicaStateOf new after.state × (step_of steps ≡ after.step))) →
+    let after = replica_step (primary_in noted.nodes noted.entries) replica from content steps.short in
+    IsReplicaStateOf new after.state × (step_of steps ≡ after.step))) →
     IsReplicaAt (Some vnode) before →
     IfOk result (λ steps. let after = slot_step noted before from content steps.short in IsReplicaAt (Some new) after.0 × (step_of steps ≡ after.1))
 handed noted vnode new None from content result steps is = absurd is
@@ -37,7 +38,7 @@ handed noted vnode new (Some replica) from content result steps is = steps repli
 
 -- where it is spent
 pub handed_spent : (vnode : Vnode) (before : Option ReplicaState) (content : Content) (result : Result Steps Refused) →
-    ((replica : ReplicaState) → IsReplicaStateOf vnode replica → inputs.IsSpentWhere (is_spent replica content) result) →
+    ((replica : ReplicaState) → IsReplicaStateOf vnode replica → IsSpentWhere (is_replica_spent replica content) result) →
     IsReplicaAt (Some vnode) before → IsSpentWhere (is_slot_spent before content) result
 handed_spent vnode None content result spent is = absurd is
 handed_spent vnode (Some replica) content (Ok steps) spent is = spent replica is
@@ -123,13 +124,13 @@ module _ (noted : Noted) (vnodes : List (Option Vnode)) (state : NodeState) (fro
 
   -- its replica is there, where it fits
   pub fits_there : (slot : Option Vnode) → IsReplicaAt slot (replica_at state v) → DeliveryFits noted state from content →
-      (replica : ReplicaState) × IsReplicaAt slot (Some replica) × Fits noted.nodes replica content
+      (replica : ReplicaState) × IsReplicaAt slot (Some replica) × ReplicaFits noted.nodes replica content
   fits_there slot is fit =
       let here : replica_at state v ≡ Some fit.replica = sym (ap (replica_for state) for) ∙ fit.here in
       (fit.replica, subst (λ (replica : Option ReplicaState). IsReplicaAt slot replica) here is, fit.fits)
 
   -- what is so where the message fits the replica that is there is so where it fits the node
-  pub where_it_fits : {P : Type 0} (slot : Option Vnode) → ((replica : ReplicaState) → IsReplicaAt slot (Some replica) → Fits noted.nodes replica content → P) →
+  pub where_it_fits : {P : Type 0} (slot : Option Vnode) → ((replica : ReplicaState) → IsReplicaAt slot (Some replica) → ReplicaFits noted.nodes replica content → P) →
       IsReplicaAt slot (replica_at state v) → DeliveryFits noted state from content → P
   where_it_fits slot told is fit = let there = fits_there slot is fit in told there.0 there.1 there.2
 
@@ -147,14 +148,33 @@ nothing_fits_for_none noted state from content for fit =
 
 -- ---- the first replicas
 
-length_either : (b : Bool) (me : ℕ) (replica : Option ReplicaState) → length (if b then slice_set no_replicas me replica else no_replicas) ≡ VIRTUAL_NODES_MAX
-length_either true me replica = length-set no_replicas me replica
-length_either false me replica = refl
+-- either way there are as many slots as virtual nodes
+length_either : (b : Bool) (nodes me : ℕ) (primary standby : ReplicaState) →
+    length (if b then two_replicas nodes me primary standby else no_replicas) ≡ VIRTUAL_NODES_MAX
+length_either true nodes me primary standby =
+    length-set (slice_set no_replicas me (Some primary)) (backed_up nodes me) (Some standby)
+    ∙ length-set no_replicas me (Some primary)
+length_either false nodes me primary standby = refl
+
+-- slots that are empty on both sides
+pub none_alike : (n : ℕ) → AllZip IsReplicaAt (replicate n None) (replicate n None)
+none_alike zero = tt
+none_alike (suc n) = (tt, none_alike n)
+
+-- those of a node are its two first ones
+pub first_of_node : (vnodes : List (Option Vnode)) (nodes me before : ℕ) → me < nodes → before ≡ backed_up nodes me →
+    AllZip IsReplicaAt vnodes (slice_set (slice_set no_replicas me (Some (first_member nodes me))) before (Some (first_member nodes before))) →
+    AllZip IsReplicaAt vnodes (first_node nodes me).replicas
+first_of_node vnodes nodes me before below is are =
+    let there : nat_lt me nodes ≡ true = grind (arith, nat_tests) in
+    rw there (subst (λ (v : ℕ).
+    AllZip IsReplicaAt vnodes (slice_set (slice_set no_replicas me (Some (first_member nodes me))) v (Some (first_member nodes v)))) is are)
 
 -- there are as many as virtual nodes
 pub first_counted : (vnodes : List (Option Vnode)) (nodes me : ℕ) → AllZip IsReplicaAt vnodes (first_node nodes me).replicas → length vnodes ≡ VIRTUAL_NODES_MAX
 first_counted vnodes nodes me are =
-    sym (AllZip-long IsReplicaAt vnodes (first_node nodes me).replicas are) ∙ length_either (nat_lt me nodes) me (Some (first_replica me nodes))
+    sym (AllZip-long IsReplicaAt vnodes (first_node nodes me).replicas are)
+    ∙ length_either (nat_lt me nodes) nodes me (first_member nodes me) (first_member nodes (backed_up nodes me))
 
 -- ---- some state
 

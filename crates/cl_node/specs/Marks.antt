@@ -5,19 +5,21 @@ use Rattle.std.proofs.Common.{le_refl}
 use Rattle.cl_actor.specs.Core.{Noted, AreFewer, receivers}
 use Rattle.cl_node.specs.Addressing.{addressed}
 use Rattle.cl_node.specs.declared.node_core.NodeCore.{NodeCore}
-use Rattle.cl_node.specs.Node.{NodeState, replica_at, slot_step, delivered_to, delivered_for, delivered_node}
+use Rattle.cl_node.specs.Node.{NodeState, replica_at, replica_step, slot_step, delivered_to, delivered_for, delivered_node}
 use Rattle.cl_node.specs.NodeCore.{IsNodeState}
 use Rattle.cl_node.specs.Slot.{IsReplicaAt}
 use Rattle.cl_vnode.specs.declared.vnode.Vnode.{Vnode}
 use Rattle.cl_vnode.specs.Laws as of_replica
 use Rattle.cl_vnode.specs.Replica.{ReplicaState, IsReplicaStateOf}
-use Rattle.cl_vnode.specs.Step.{primary_in, stepped}
+use Rattle.cl_vnode.specs.Step.{primary_in}
 use Rattle.cl_vnode.proofs.Marks.{marks_are_alike as replica_marks}
-use Rattle.cl_wire.specs.Message.{Content}
+use Rattle.cl_wire.specs.Message.{Content, Log}
 
--- so does a replica
+-- so does a replica: as the standby it sends the same with every mark
 replica_sends_fewer : (vnode : Vnode) (replica : ReplicaState) → IsReplicaStateOf vnode replica → (primary : ℕ → ℕ) (from : ℕ) (content : Content) →
-    AreFewer (of_replica.receivers (stepped primary replica from content true).step) (of_replica.receivers (stepped primary replica from content false).step)
+    AreFewer (of_replica.receivers (replica_step primary replica from content true).step)
+    (of_replica.receivers (replica_step primary replica from content false).step)
+replica_sends_fewer vnode replica is primary from (Log v number entry) = λ to. le_refl _
 replica_sends_fewer vnode replica is primary from content = replica_marks vnode replica is primary from content true
 
 -- by the replica that the message is for

@@ -1,10 +1,12 @@
 //! The core of a node.
-ghost use Rattle.std.specs.Prelude.{◌≡◌, length};
+ghost use Rattle.std.specs.Prelude.{◌≡◌, ◌<◌, List, length, Option, Some, slice_set};
 ghost use Rattle.std.specs.List.{AllZip};
-ghost use Rattle.cl_node.specs.Node.{first_node};
+ghost use Rattle.cl_node.specs.Members.{backed_up};
+ghost use Rattle.cl_node.specs.Node.{first_member, first_node};
 ghost use Rattle.cl_node.specs.Slot.{IsReplicaAt};
 ghost use Rattle.cl_types.specs.Placement.{IsNodeCount};
 ghost use Rattle.cl_roster.specs.declared.limits.TheConstants.{VIRTUAL_NODES_MAX};
+ghost use Rattle.cl_vnode.specs.Replica.{IsReplicaStateOf, ReplicaState};
 
 use crate::addressing::addressed;
 use crate::slot::{admits as slot_admits, is_any_busy};
@@ -24,6 +26,35 @@ pub struct NodeCore {
     ghost counted: { length replicas ≡ VIRTUAL_NODES_MAX },
 }
 
+// The first replica of a virtual node, the same at its primary and at its standby.
+fn first_member(alloc: Global, nodes: u32, v: u32) -> Vnode
+    requires count { IsNodeCount nodes }
+    requires below { v < nodes }
+    ensures { IsReplicaStateOf result (first_member nodes v) }
+{
+    Vnode::new(alloc, v, nodes, Some((v + 1) % nodes))
+}
+
+// Begins the first replica of a virtual node.
+fn begin(alloc: Global, replicas: &mut [Option<Vnode>; VIRTUAL_NODES_MAX], nodes: u32, v: u32)
+    requires count { IsNodeCount nodes }
+    requires below { v < nodes }
+    ensures { (before : List (Option ReplicaState)) → AllZip IsReplicaAt replicas.old before
+        → AllZip IsReplicaAt replicas.new (slice_set before v (Some (first_member nodes v))) }
+{
+    replicas[v as usize] = Some(first_member(alloc, nodes, v));
+}
+
+// The virtual node of which a node has the standby, of so many.
+fn backed_up(nodes: u32, me: u32) -> u32
+    requires count { IsNodeCount nodes }
+    requires below { me < nodes }
+    ensures same { result ≡ backed_up nodes me }
+    ensures below { result < nodes }
+{
+    (me + (nodes - 1)) % nodes
+}
+
 // The replicas of the node `me` at the start.
 fn first_replicas(alloc: Global, me: u32, nodes: u32) -> [Option<Vnode>; VIRTUAL_NODES_MAX]
     requires { IsNodeCount nodes }
@@ -31,7 +62,8 @@ fn first_replicas(alloc: Global, me: u32, nodes: u32) -> [Option<Vnode>; VIRTUAL
 {
     let mut replicas = [None, None, None, None, None, None, None, None];
     if me < nodes {
-        replicas[me as usize] = Some(Vnode::new(alloc, me, nodes, None));
+        begin(alloc, &mut replicas, nodes, me);
+        begin(alloc, &mut replicas, nodes, backed_up(nodes, me));
     }
     replicas
 }
@@ -44,7 +76,7 @@ impl NodeCore {
     ghost use Rattle.cl_wire.specs.Message.{content_of};
 
     /// The core of the node `me` at the start of a cluster of so many nodes: a node is the primary of the virtual node of its
-    /// own number, which has no standby, and a spare is no member. It allocates nothing.
+    /// own number and the standby of the one before, and a spare is no member. It allocates nothing.
     pub fn new(alloc: Global, me: u32, nodes: u32) -> NodeCore
         requires { IsNodeCount nodes }
         ensures { IsNodeState result (first_node nodes me) }

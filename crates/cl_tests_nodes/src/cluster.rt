@@ -24,6 +24,8 @@ enum Kind {
     Prepare,
     Vote,
     Finish,
+    Log,
+    LogAck,
     Other,
 }
 
@@ -55,6 +57,8 @@ fn kind_of(body: &Body) -> Kind {
         Body::Prepare(..) => Kind::Prepare,
         Body::Vote(..) => Kind::Vote,
         Body::Finish(..) => Kind::Finish,
+        Body::Log(..) => Kind::Log,
+        Body::LogAck(..) => Kind::LogAck,
         _ => Kind::Other,
     }
 }
@@ -105,7 +109,8 @@ fn is_quiet(outs: &Outs) -> bool {
         && !outs.short
 }
 
-// A front and the nodes 0 and 1, which are the primaries of the virtual nodes of the same number.
+// A front and the nodes 0 and 1, which are the primaries of the virtual nodes of the same number, and
+// each the standby of the other's.
 #[derive(Drop)]
 struct Cluster {
     front: Front,
@@ -239,9 +244,15 @@ impl Cluster {
         Ok(all.as_slice() == text.as_bytes())
     }
 
-    // Whether keys `a`, of virtual node 0, and `b`, of 1, have these values in table `t`.
+    // Whether keys `a`, of virtual node 0, and `b`, of 1, have these values in table `t`, at primary and
+    // standby.
     fn stores(&self, a: Option<&[u8]>, b: Option<&[u8]>) -> Result<bool, NoSample> {
-        Ok(stands(&self.zero, 0, b"a", a)? && stands(&self.one, 1, b"b", b)?)
+        Ok(
+            stands(&self.zero, 0, b"a", a)?
+                && stands(&self.one, 0, b"a", a)?
+                && stands(&self.one, 1, b"b", b)?
+                && stands(&self.zero, 1, b"b", b)?,
+        )
     }
 }
 
@@ -253,8 +264,9 @@ fn stands(node: &Node, v: u32, bytes: &[u8], wanted: Option<&[u8]>) -> Result<bo
     }
 }
 
-// Session 1 is of virtual node 1, so node 1 asks itself too.
-const COMMIT: [Event; 34] = [
+// Session 1 is of virtual node 1, so node 1 asks itself too. Each record goes to the standby. An answer
+// waits for none, a vote for that of its Prepared, and the outcome of the COMMIT for that of its Decide.
+const COMMIT: [Event; 54] = [
     Event::Feeds("1 BEGIN"),
     Event::Comes((FRONT, 1, Kind::Command)),
     Event::Comes((1, FRONT, Kind::Outcome)),
@@ -263,36 +275,56 @@ const COMMIT: [Event; 34] = [
     Event::Comes((FRONT, 1, Kind::Command)),
     Event::Comes((1, FRONT, Kind::Bare)),
     Event::Comes((1, 0, Kind::Ask)),
+    Event::Comes((0, 1, Kind::Log)),
     Event::Comes((0, 1, Kind::Answer)),
+    Event::Comes((1, 0, Kind::LogAck)),
     Event::Comes((1, 0, Kind::Bare)),
     Event::Comes((1, FRONT, Kind::Outcome)),
+    Event::Comes((0, 1, Kind::Bare)),
     Event::Comes((FRONT, 1, Kind::Bare)),
     Event::Feeds("1 PUT t b y"),
     Event::Comes((FRONT, 1, Kind::Command)),
     Event::Comes((1, FRONT, Kind::Bare)),
     Event::Comes((1, 1, Kind::Ask)),
     Event::Comes((1, 1, Kind::Answer)),
+    Event::Comes((1, 0, Kind::Log)),
     Event::Comes((1, 1, Kind::Bare)),
     Event::Comes((1, FRONT, Kind::Outcome)),
+    Event::Comes((0, 1, Kind::LogAck)),
     Event::Comes((FRONT, 1, Kind::Bare)),
+    Event::Comes((1, 0, Kind::Bare)),
     Event::Feeds("1 COMMIT"),
     Event::Comes((FRONT, 1, Kind::Command)),
     Event::Comes((1, FRONT, Kind::Bare)),
     Event::Comes((1, 0, Kind::Prepare)),
     Event::Comes((1, 1, Kind::Prepare)),
+    Event::Comes((0, 1, Kind::Log)),
+    Event::Comes((1, 1, Kind::Bare)),
+    Event::Comes((1, 0, Kind::Log)),
+    Event::Comes((1, 0, Kind::LogAck)),
+    Event::Comes((0, 1, Kind::LogAck)),
     Event::Comes((0, 1, Kind::Vote)),
+    Event::Comes((1, 0, Kind::Bare)),
     Event::Comes((1, 1, Kind::Vote)),
     Event::Comes((1, 0, Kind::Bare)),
-    Event::Comes((1, 1, Kind::Finish)),
-    Event::Comes((1, 0, Kind::Finish)),
-    Event::Comes((1, FRONT, Kind::Outcome)),
     Event::Comes((1, 1, Kind::Bare)),
-    Event::Comes((0, 1, Kind::Bare)),
+    Event::Comes((1, 0, Kind::Log)),
+    Event::Comes((0, 1, Kind::LogAck)),
+    Event::Comes((1, 0, Kind::Finish)),
+    Event::Comes((1, 1, Kind::Finish)),
+    Event::Comes((1, FRONT, Kind::Outcome)),
+    Event::Comes((0, 1, Kind::Log)),
+    Event::Comes((1, 1, Kind::Bare)),
+    Event::Comes((1, 0, Kind::Log)),
     Event::Comes((FRONT, 1, Kind::Bare)),
+    Event::Comes((1, 0, Kind::LogAck)),
+    Event::Comes((0, 1, Kind::LogAck)),
+    Event::Comes((0, 1, Kind::Bare)),
+    Event::Comes((1, 0, Kind::Bare)),
 ];
 
 // A packet that is lost comes again after a tick of its sender.
-const FATES: [Event; 42] = [
+const FATES: [Event; 65] = [
     Event::Feeds("1 BEGIN"),
     Event::IsLost((FRONT, 1, Kind::Command)),
     Event::Ticks(FRONT),
@@ -305,15 +337,22 @@ const FATES: [Event; 42] = [
     Event::Comes((FRONT, 1, Kind::Command)),
     Event::IsLost((1, FRONT, Kind::Bare)),
     Event::ComesTwice((1, 0, Kind::Ask)),
+    Event::IsLost((0, 1, Kind::Log)),
     Event::IsLost((0, 1, Kind::Answer)),
     Event::Comes((0, 1, Kind::Bare)),
     Event::Ticks(0),
+    Event::ComesTwice((0, 1, Kind::Log)),
     Event::ComesTwice((0, 1, Kind::Answer)),
+    Event::IsLost((1, 0, Kind::LogAck)),
+    Event::Comes((1, 0, Kind::Bare)),
     Event::Comes((1, 0, Kind::Bare)),
     Event::IsLost((1, FRONT, Kind::Outcome)),
     Event::Comes((1, 0, Kind::Bare)),
     Event::Ticks(1),
+    Event::ComesTwice((1, 0, Kind::LogAck)),
     Event::ComesTwice((1, FRONT, Kind::Outcome)),
+    Event::Comes((0, 1, Kind::Bare)),
+    Event::Comes((0, 1, Kind::Bare)),
     Event::Comes((FRONT, 1, Kind::Bare)),
     Event::Comes((FRONT, 1, Kind::Bare)),
     Event::Feeds("1 COMMIT"),
@@ -322,12 +361,28 @@ const FATES: [Event; 42] = [
     Event::IsLost((1, 0, Kind::Prepare)),
     Event::Ticks(1),
     Event::ComesTwice((1, 0, Kind::Prepare)),
+    Event::ComesTwice((0, 1, Kind::Log)),
+    Event::Comes((0, 1, Kind::Bare)),
+    Event::ComesTwice((1, 0, Kind::LogAck)),
+    Event::Comes((1, 0, Kind::Bare)),
     Event::IsLost((0, 1, Kind::Vote)),
     Event::Comes((0, 1, Kind::Bare)),
     Event::Ticks(0),
     Event::ComesTwice((0, 1, Kind::Vote)),
+    Event::IsLost((1, 0, Kind::Log)),
+    Event::Comes((1, 0, Kind::Bare)),
+    Event::Ticks(1),
+    Event::ComesTwice((1, 0, Kind::Log)),
+    Event::IsLost((0, 1, Kind::LogAck)),
+    Event::Comes((0, 1, Kind::Bare)),
+    Event::Ticks(0),
+    Event::ComesTwice((0, 1, Kind::LogAck)),
     Event::ComesTwice((1, 0, Kind::Finish)),
     Event::IsLost((1, FRONT, Kind::Outcome)),
+    Event::Comes((1, 0, Kind::Bare)),
+    Event::ComesTwice((0, 1, Kind::Log)),
+    Event::Comes((0, 1, Kind::Bare)),
+    Event::ComesTwice((1, 0, Kind::LogAck)),
     Event::Comes((1, 0, Kind::Bare)),
     Event::Comes((0, 1, Kind::Bare)),
     Event::Comes((0, 1, Kind::Bare)),
@@ -338,7 +393,7 @@ const FATES: [Event; 42] = [
 ];
 
 // The second and the third line wait for the first. The second is refused without a command to the controller.
-const TURNS: [Event; 12] = [
+const TURNS: [Event; 15] = [
     Event::Feeds("1 BEGIN"),
     Event::Feeds("1 BEGIN"),
     Event::Feeds("1 GET t b"),
@@ -348,9 +403,12 @@ const TURNS: [Event; 12] = [
     Event::Comes((1, FRONT, Kind::Bare)),
     Event::Comes((1, 1, Kind::Ask)),
     Event::Comes((1, 1, Kind::Answer)),
+    Event::Comes((1, 0, Kind::Log)),
     Event::Comes((1, 1, Kind::Bare)),
     Event::Comes((1, FRONT, Kind::Outcome)),
+    Event::Comes((0, 1, Kind::LogAck)),
     Event::Comes((FRONT, 1, Kind::Bare)),
+    Event::Comes((1, 0, Kind::Bare)),
 ];
 
 fn run(rt: &impl Abort, alloc: Global, events: &[Event]) -> Result<Cluster, Refused> {
@@ -386,11 +444,21 @@ fn lines_fed_at_once_have_their_turns(rt: HostRuntime) -> Result<(), Fail> {
 }
 
 #[test]
-fn a_node_has_its_own_virtual_node_alone(rt: HostRuntime) -> Result<(), Fail> {
+fn a_node_has_its_own_virtual_node_and_the_one_before(rt: HostRuntime) -> Result<(), Fail> {
     nodes_send_to_actors();
-    let node = Node::new(rt.alloc(), 1, 2, 0)?;
-    let spare = Node::new(rt.alloc(), 2, 2, 1)?;
-    assert!(rt; node.store(1).is_some() && node.store(0).is_none() && spare.store(2).is_none());
-    assert!(rt; node.noted() == 0 && !spare.busy());
+    // The node, of 4 and a spare, and whether it has virtual nodes 0 to 3.
+    let rows = [
+        (0, [true, false, false, true]),
+        (1, [true, true, false, false]),
+        (3, [false, false, true, true]),
+        (4, [false, false, false, false]),
+    ];
+    for (me, has) in rows {
+        let node = Node::new(rt.alloc(), me, 4, 1)?;
+        assert!(rt; node.noted() == 0 && !node.busy(), "{me}");
+        for (v, wanted) in has.iter().enumerate() {
+            assert!(rt; node.store(v as u32).is_some() == *wanted, "{me} has {v}");
+        }
+    }
     Ok(())
 }

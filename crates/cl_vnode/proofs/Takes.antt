@@ -23,7 +23,6 @@ module _ (part : Part) (state : State) (is : IsStateOf part state) (number : ℕ
   pub takes_record : TakesHere part number content → TakesRecord state number content
   takes_record takes = record {
     next = takes.next ∙ is.next;
-    fits = takes.fits;
     carries = λ place write. ap (λ (s : Stored). s.0) (sym (is.store place)) ∙ takes.carries place write;
     free = λ other place apart. ap (λ m. is_conflict m (mode_at place content)) (sym (held_alike other place)) ∙ takes.free other place apart;
     unended = subst (λ (log : List LogEntry). IsUnended log content) is.log takes.unended;
@@ -33,7 +32,6 @@ module _ (part : Part) (state : State) (is : IsStateOf part state) (number : ℕ
   pub takes_here : TakesRecord state number content → TakesHere part number content
   takes_here takes = record {
     next = takes.next ∙ sym is.next;
-    fits = takes.fits;
     carries = λ place write. ap (λ (s : Stored). s.0) (is.store place) ∙ takes.carries place write;
     free = λ other place apart. ap (λ m. is_conflict m (mode_at place content)) (held_alike other place) ∙ takes.free other place apart;
     unended = subst (λ (log : List LogEntry). IsUnended log content) (sym is.log) takes.unended;

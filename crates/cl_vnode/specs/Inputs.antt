@@ -1,5 +1,5 @@
 -- Which inputs come to a replica that is primary or standby, and which of them need a log number that is not left.
-use Rattle.std.specs.Prelude.{◌≡◌, ℕ, ◌+◌, ◌<◌, ◌≤◌, nat_lt, Bool, true, false, ◌&&◌, List, length}
+use Rattle.std.specs.Prelude.{◌≡◌, ℕ, ◌+◌, ◌<◌, nat_lt, Bool, true, false, ◌&&◌, List, length}
 use Rattle.std.specs.List.{list_any}
 use Rattle.cl_types.specs.declared.operations.TxnId.{TxnId}
 use Rattle.cl_types.specs.Places.{Place}
@@ -51,7 +51,6 @@ pub record Fits (nodes : ℕ) (state : ReplicaState) (content : Content) : Type 
 -- transaction's lock conflicts, and its transaction has not ended
 pub record TakesRecord (part : State) (number : ℕ) (content : LogRec) : Type 0 where
   pub next : number ≡ part.next
-  pub fits : number ≤ LOG_NUMBER_MAX
   pub carries : (place : Place) → writes place content ≡ true → (part.stored place).0 ≡ number_before content
   pub free : IsFree (mode_held part.grants) content
   pub unended : IsUnended part.log content
@@ -85,6 +84,11 @@ has_decide acts = list_any is_decide acts
 abbrev pub is_end_spent : State → TxnId → Bool → Bool
 is_end_spent part txn true = is_full part.next
 is_end_spent part txn false = is_full (part.next + length (rest_to_undo part.log txn))
+
+-- a step of a standby is spent: the number of the record is above the limit
+abbrev pub is_standby_spent : Content → Bool
+is_standby_spent (Log v number content) = is_full number
+is_standby_spent content = false
 
 -- a step is spent: it would append a record, or be an operation, and no log number is left for it
 abbrev pub is_spent : ReplicaState → Content → Bool

@@ -1,11 +1,10 @@
 -- When a participant may take a record. No public clause cites this module.
-use Rattle.std.specs.Prelude.{◌≡◌, ◌≢◌, ℕ, ◌≤◌, true, false, if◌then◌else◌, Option, Some, None}
+use Rattle.std.specs.Prelude.{◌≡◌, ◌≢◌, ℕ, true, false, if◌then◌else◌, Option, Some, None}
 use Rattle.cl_types.specs.declared.operations.Mode.{Mode}
 use Rattle.cl_types.specs.declared.operations.TxnId.{TxnId}
 use Rattle.cl_types.specs.Modes.{is_conflict}
 use Rattle.cl_types.specs.Places.{Place, same_place}
 use Rattle.cl_locks.specs.Table.{held}
-use Rattle.cl_log.specs.declared.log.TheConstants.{LOG_NUMBER_MAX}
 use Rattle.cl_log.specs.declared.records.LogRec.{LogRec}
 use Rattle.cl_log.specs.Kind.{writes, number_before}
 use Rattle.cl_log.specs.Log.{entries, next_number}
@@ -21,7 +20,6 @@ IsLockFree held txn own mode =
 -- the record of this number may be taken, told from the participant
 pub record TakesHere (part : Part) (number : ℕ) (content : LogRec) : Type 0 where
   pub next : number ≡ next_number part.log
-  pub fits : number ≤ LOG_NUMBER_MAX
   pub carries : (place : Place) → writes place content ≡ true → (stored part.store place).0 ≡ number_before content
   pub free : IsFree (held part.locks) content
   pub unended : IsUnended (entries part.log) content

@@ -1,5 +1,5 @@
 //! Which messages come to a primary, and which to a standby.
-ghost use Rattle.std.specs.Prelude.{◌≡◌, ◌≤◌, ◌↔◌, true};
+ghost use Rattle.std.specs.Prelude.{◌≡◌, ◌↔◌, true};
 ghost use Rattle.cl_locks.specs.Table.{held};
 ghost use Rattle.cl_log.specs.Kind.{number_before, writes};
 ghost use Rattle.cl_log.specs.Log.{entries, next_number};
@@ -14,7 +14,7 @@ ghost use Rattle.cl_wire.specs.Message.{content_of};
 
 use cl_control::Control;
 use cl_locks::Locks;
-use cl_log::{LOG_NUMBER_MAX, Log, LogRec};
+use cl_log::{Log, LogRec};
 use cl_part::Part;
 use cl_repair::Mode;
 use cl_steps::FRONT;
@@ -80,12 +80,11 @@ fn may_take(part: &Part, number: u64, content: &LogRec) -> bool
         && is_unended(&part.log, content)
 }
 
-// Whether the number is the log's next one, and a number of a record.
+// Whether the number is the log's next one.
 fn is_next(log: &Log, number: u64) -> bool
-    ensures { (result ≡ true) ↔ ((number ≡ next_number log.now) × (number ≤ LOG_NUMBER_MAX)) }
+    ensures { (result ≡ true) ↔ (number ≡ next_number log.now) }
 {
-    let last = log.last();
-    last < LOG_NUMBER_MAX && last + 1 == number
+    number > 0 && log.last() == number - 1
 }
 
 // Whether a write carries the number that stands at its place.

@@ -1,5 +1,5 @@
 //! What a record of its primary's log does to a standby.
-ghost use Rattle.std.specs.Prelude.{◌≡◌, ◌++◌, OnOk};
+ghost use Rattle.std.specs.Prelude.{◌≡◌, ◌≤◌, ◌++◌, OnOk};
 ghost use Rattle.cl_backup.specs.Decisions.{decisions_after};
 ghost use Rattle.cl_part.specs.State.{IsBelowNext, IsStateOf, State, after_record};
 ghost use Rattle.cl_steps.specs.Steps.{step_of};
@@ -7,7 +7,7 @@ ghost use Rattle.cl_vnode.specs.Standby.{firm_of};
 ghost use Rattle.cl_vnode.specs.Taking.{TakesHere};
 
 use cl_backup::Decisions;
-use cl_log::LogRec;
+use cl_log::{LOG_NUMBER_MAX, LogRec};
 use cl_part::Part;
 use cl_redo::take;
 use cl_steps::Steps;
@@ -23,6 +23,7 @@ pub(crate) fn take_record(
 ) -> Result<(), NoMemory>
     requires below { IsBelowNext part.old }
     requires takes { TakesHere part.old number content }
+    requires fits { number ≤ LOG_NUMBER_MAX }
     ensures state { (before : State) → IsStateOf part.old before → OnOk result (IsStateOf part.new (after_record before content)) }
     ensures below { IsBelowNext part.new }
 {

@@ -9,7 +9,7 @@ use crate::shipping::{ship, tell_firm_at_once};
 use crate::taking::{keep_decision, take_record, tell_firm};
 use cl_backup::Decisions;
 use cl_control::{ActList, Control};
-use cl_log::LogRec;
+use cl_log::{LOG_NUMBER_MAX, LogRec};
 use cl_part::Part;
 use cl_repair::{Mode, Modes};
 use cl_roster::{Roles, Roster, rosters_are_lawful};
@@ -36,7 +36,7 @@ pub struct Vnode {
 }
 
 impl Vnode {
-    ghost use Rattle.std.specs.Prelude.{◌≡◌, ◌+◌, true, false, ◌&&◌, IsTrue, IfOk, OnOk};
+    ghost use Rattle.std.specs.Prelude.{◌≡◌, ◌+◌, ◌≤◌, true, false, ◌&&◌, IsTrue, IfOk, OnOk};
     ghost use Rattle.cl_control.specs.Calls.{MayCommand, command_acts, counts_number, vote_acts};
     ghost use Rattle.cl_log.specs.Log.{entries, next_number};
     ghost use Rattle.cl_log.specs.LogEntry.{content_at};
@@ -47,7 +47,7 @@ impl Vnode {
     ghost use Rattle.cl_types.specs.Places.{Place};
     ghost use Rattle.cl_wire.specs.Message.{content_of};
     ghost use Rattle.cl_vnode.specs.Inputs as inputs;
-    ghost use Rattle.cl_vnode.specs.Inputs.{Fits, IsSpentWhere, MayCome, StandbyFits, TakesRecord, has_decide, is_spent};
+    ghost use Rattle.cl_vnode.specs.Inputs.{Fits, IsSpentWhere, MayCome, StandbyFits, TakesRecord, has_decide, is_spent, is_standby_spent};
     ghost use Rattle.cl_vnode.specs.Replica.{ReplicaState, IsReplicaStateOf, is_busy, new_replica, safe_number};
     ghost use Rattle.cl_vnode.specs.Sending.{AreActs, HasStepped, primary_of, told_at};
     ghost use Rattle.cl_vnode.specs.Standby.{standby_stepped, with_record};
@@ -128,7 +128,8 @@ impl Vnode {
     /// Takes a message as the virtual node's standby, and gives what is to be sent.
     ///
     /// The node calls it for each message that it accepted for a virtual node of which it is standby.
-    /// A record is copied once. After an error the replica may only be dropped.
+    /// A record is copied once; one whose number is above `LOG_NUMBER_MAX` is refused as spent. After
+    /// an error the replica may only be dropped.
     pub fn standby_step(
         &mut self,
         roster: &Roster,
@@ -140,10 +141,13 @@ impl Vnode {
         ensures step { (before : ReplicaState) → IsReplicaStateOf self.old before → IfOk result (λ steps.
             let after = standby_stepped before from (content_of body.now) in
             IsReplicaStateOf self.new after.state × (step_of steps ≡ after.step)) }
-        ensures spent { IsSpentWhere false result }
+        ensures spent { IsSpentWhere (is_standby_spent (content_of body.now)) result }
     {
         let mut steps = Steps::new(self.alloc);
         if let Body::Log(v, number, content) = body {
+            if *number > LOG_NUMBER_MAX {
+                return Err(Refused::Spent);
+            }
             self.take_record(*number, content)?;
             tell_firm(&mut steps, content)?;
             steps.send(from, Body::LogAck(*v, *number))?;
@@ -153,7 +157,8 @@ impl Vnode {
 
     // Takes a record of the primary's log.
     fn take_record(&mut self, number: u64, content: &LogRec) -> Result<(), NoMemory>
-        requires { (before : ReplicaState) × IsReplicaStateOf self.old before × TakesRecord before.part number content.now }
+        requires takes { (before : ReplicaState) × IsReplicaStateOf self.old before × TakesRecord before.part number content.now }
+        requires fits { number ≤ LOG_NUMBER_MAX }
         ensures { (before : ReplicaState) → IsReplicaStateOf self.old before
             → OnOk result (IsReplicaStateOf self.new (with_record before content.now)) }
     {

@@ -5,4 +5,4 @@ use Rattle.cl_node.proofs.slot.admits.Goals as goal
 
 pub returns-in-Some-clause-refused : goal.returns-in-Some-clause-refused
 returns-in-Some-clause-refused c before is fits =
-    c.admits.ensures.refused before (subst (λ slot. IsReplicaAt slot (Some before)) c.in-Some.is is) fits
+    c.may_come.ensures.refused before (subst (λ slot. IsReplicaAt slot (Some before)) c.in-Some.is is) fits

@@ -6,5 +6,6 @@ use Rattle.cl_vnode.proofs.vnode.Vnode.take_record.Goals as goal
 
 pub take_record-requires-clause-takes : goal.take_record-requires-clause-takes
 take_record-requires-clause-takes c =
+    let takes = c.requires.takes in
     subst (TakesHere c.args.self.now.part c.args.number) (sym c.in_ok-copied.ensures)
-    (takes_here c.args.self.now.part c.requires.0.part c.requires.1.part c.args.number c.args.content.now c.requires.2)
+    (takes_here c.args.self.now.part takes.0.part takes.1.part c.args.number c.args.content.now takes.2)
