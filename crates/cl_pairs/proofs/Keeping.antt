@@ -21,7 +21,7 @@ use Rattle.cl_vnode.specs.Replica.{ReplicaState}
 use Rattle.cl_vnode.specs.Standby.{with_record}
 use Rattle.cl_vnode.specs.Step.{Stepped, stepped, log_message}
 use Rattle.cl_wire.specs.Message.{Content, Log, LogAck}
-use Rattle.cl_pairs.specs.Pairs.{standby_node}
+use Rattle.cl_node.specs.Members.{standby_node}
 use Rattle.cl_pairs.specs.Streams.{is_log_of, log_of, IsAckBelow}
 use Rattle.cl_pairs.proofs.Logs.{IsSaid, said-record, counted-said}
 use Rattle.cl_pairs.proofs.Mail.{mailed_all, popped_all, mailed_none, popped_none, popped_rest, shipped_logs}
@@ -47,7 +47,7 @@ IsBelow next (LogAck v number) = number < next
 IsBelow next content = Unit {0}
 
 -- a message leaves the mode
-modes_with-mode : (modes : ModesState) (content : Content) → (modes_with modes content).mode ≡ modes.mode
+pub modes_with-mode : (modes : ModesState) (content : Content) → (modes_with modes content).mode ≡ modes.mode
 modes_with-mode modes (LogAck v number) = refl
 modes_with-mode modes content = refl
 
@@ -328,11 +328,21 @@ module _ (nodes : ℕ) (primaries standbys : ℕ → ReplicaState) (mail : Mail)
         (popped_all (IsAckBelow u next) mail v node (Log v number content) rest (standby_node nodes u) u waits below))
         (one_sent (λ (send : Outgoing). IsAckBelow u after send.payload) (sent v (LogAck v number)) own)
 
+    -- the log record is the head of those on their way
+    head : filter (is_log_of v) (mail v node) ≡ Log v number content ∷ filter (is_log_of v) rest
+    head = ap (filter (is_log_of v)) waits ∙ cond-true (eqb v v) _ _ (eq-eqb v v refl)
+
+    -- it has the standby's next number
+    pub head_next : number ≡ (standbys v).part.next
+    head_next =
+        (is_head (standbys v) (primaries v).part.log (are.streams v).way v number content (filter (is_log_of v) rest)
+        (counted-said (primaries v).part (primaries v).decisions (are.streams v).primary_said).numbered
+        (are.streams v).standby_said (are.streams v).logs (sym head ∙ (are.streams v).shipped)).next
+
     -- the stream of the virtual node whose standby it is
     taken_stream : IsStream nodes v (primaries v) (with_record (standbys v) content) (with_mail left node answer v node) (with_mail left node answer node v)
     taken_stream =
-        stream-standby nodes v (primaries v) (standbys v) (mail v node) (mail node v) _ _ number content (filter (is_log_of v) rest) (are.streams v)
-        (ap (filter (is_log_of v)) waits ∙ cond-true (eqb v v) _ _ (eq-eqb v v refl))
+        stream-standby nodes v (primaries v) (standbys v) (mail v node) (mail node v) _ _ number content (filter (is_log_of v) rest) (are.streams v) head
         (mailed_none (is_log_of v) left node answer v node (no_answer v) ∙ ap (filter (is_log_of v)) (popped_rest mail v node rest))
         (λ next. answered v (standbys v).part.next ((standbys v).part.next + 1) (are.streams v).acknowledged (omega arith) (λ same. omega (arith, next)))
 

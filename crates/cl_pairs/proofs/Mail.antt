@@ -14,7 +14,7 @@ use Rattle.cl_wire.specs.Message.{Content}
 use Rattle.cl_pairs.specs.Streams.{is_log_of, log_of}
 
 -- the way whose head was taken off
-on_way : (mail : Mail) (from to : ℕ) (contents : List Content) (giver receiver : ℕ) → mail from to ≡ contents → (eqb receiver to && eqb giver from) ≡ true →
+pub on_way : (mail : Mail) (from to : ℕ) (contents : List Content) (giver receiver : ℕ) → mail from to ≡ contents → (eqb receiver to && eqb giver from) ≡ true →
     mail giver receiver ≡ contents
 on_way mail from to contents giver receiver is here =
     let parts : (eqb receiver to ≡ true) × (eqb giver from ≡ true) = and_parts (eqb receiver to) (eqb giver from) here in

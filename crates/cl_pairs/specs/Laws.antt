@@ -1,9 +1,10 @@
 -- The laws of runs of pairs.
-use Rattle.std.specs.Prelude.{◌≡◌, ℕ, List, []}
+use Rattle.std.specs.Prelude.{◌≡◌, ℕ, ◌+◌, List, []}
+use Rattle.cl_node.specs.Members.{standby_node}
 use Rattle.cl_roster.specs.Roster.{IsClusterSize}
 use Rattle.cl_runs.specs.Queues.{QueueEvent}
 use Rattle.cl_runs.specs.World.{Shape}
-use Rattle.cl_pairs.specs.Pairs.{PairWorld, IsPairRun, pair_world_after, standby_node}
+use Rattle.cl_pairs.specs.Pairs.{PairWorld, IsPairRun, pair_world_after}
 use Rattle.cl_pairs.specs.Streams.{IsOneLog, AreOneLog}
 
 -- the statement holds of every run of pairs of a cluster of a lawful size
@@ -22,3 +23,8 @@ pub record AreEqual (shape : Shape) (pairs : PairWorld) (v : ℕ) : Type 0 where
 -- so it is of every virtual node to whose standby nothing is on its way, as in each quiet moment
 abbrev pub PairsAgree : Type 0
 PairsAgree = (shape : Shape) (pairs : PairWorld) (v : ℕ) → IsOneLog shape.nodes pairs v → pairs.mail v (standby_node shape.nodes v) ≡ [] → AreEqual shape pairs v
+
+-- where nothing is on its way between primary and standby, all of the log is acknowledged
+abbrev pub AllIsAcknowledged : Type 0
+AllIsAcknowledged = (shape : Shape) (pairs : PairWorld) (v : ℕ) → IsOneLog shape.nodes pairs v →
+    pairs.mail v (standby_node shape.nodes v) ≡ [] → pairs.mail (standby_node shape.nodes v) v ≡ [] → (pairs.primaries v).modes.acked + 1 ≡ (pairs.primaries v).part.next

@@ -1,22 +1,19 @@
 -- The cluster as its front, a primary and a standby of each virtual node, and what is on its way between them: no stops, no packets.
-use Rattle.std.specs.Prelude.{◌≡◌, ℕ, ◌+◌, ◌%◌, ◌≤◌, ◌==◌, if◌then◌else◌, Bool, true, false, List, [], ◌∷◌, fold, Option, Some, None}
+use Rattle.std.specs.Prelude.{◌≡◌, ℕ, ◌+◌, ◌==◌, if◌then◌else◌, Bool, true, false, List, [], ◌∷◌, fold, Option, Some, None}
 use Rattle.cl_actor.specs.Core.{CoreStep}
 use Rattle.cl_front.specs.Front.{FrontState, new_front, delivered_front, fed_front, quiet_front, DeliveryFits, LineFits}
-use Rattle.cl_log.specs.declared.log.TheConstants.{LOG_NUMBER_MAX}
+use Rattle.cl_node.specs.Members.{standby_node}
+use Rattle.cl_node.specs.Node.{first_member}
 use Rattle.cl_runs.specs.Queues.{QueueEvent, deliver, take_line, quieten, nothing}
 use Rattle.cl_runs.specs.World.{Shape, EachMayHappen, with_at, with_firm}
 use Rattle.cl_steps.specs.declared.actors.TheConstants.{FRONT}
 use Rattle.cl_system.specs.Replicas.{Mail, nothing_noted, own_primary, with_mail, with_way}
 use Rattle.cl_types.specs.declared.operations.TxnId.{TxnId}
 use Rattle.cl_vnode.specs.Inputs.{Fits, StandbyFits}
-use Rattle.cl_vnode.specs.Replica.{ReplicaState, new_replica}
+use Rattle.cl_vnode.specs.Replica.{ReplicaState}
 use Rattle.cl_vnode.specs.Standby.{standby_stepped}
 use Rattle.cl_vnode.specs.Step.{Stepped, stepped}
 use Rattle.cl_wire.specs.Message.{Content, Log}
-
--- the node that has the standby of a virtual node, of so many
-abbrev pub standby_node : ℕ → ℕ → ℕ
-standby_node nodes v = (v + 1) % nodes
 
 -- the front, the replicas, and what is on its way
 pub record PairWorld : Type 0 where
@@ -82,8 +79,8 @@ after_pair_event shape pairs nothing = pairs
 abbrev pub first_pair_world : Shape → PairWorld
 first_pair_world shape = record {
   front = new_front;
-  primaries = λ v. new_replica v shape.nodes (Some (standby_node shape.nodes v));
-  standbys = λ v. new_replica v shape.nodes (Some (standby_node shape.nodes v));
+  primaries = first_member shape.nodes;
+  standbys = first_member shape.nodes;
   mail = λ from to. [];
   history = [];
   lines = 0;
@@ -104,14 +101,9 @@ MayPairs pairs nothing = Unit {0}
 unfoldable pub IsPairRun : Shape → List QueueEvent → Type 0
 IsPairRun shape events = EachMayHappen MayPairs (after_pair_event shape) events (first_pair_world shape)
 
--- a log record has a number that a log may have
-abbrev pub HasLogNumber : Content → Type 0
-HasLogNumber (Log v number entry) = number ≤ LOG_NUMBER_MAX
-HasLogNumber content = Unit {0}
-
--- a message fits a node: a log record the standby of its virtual node, if it has a number that a log may have, and everything else the primary
+-- a message fits a node: a log record the standby of its virtual node, and everything else the primary
 abbrev pub FitsReplica : Shape → PairWorld → ℕ → Content → Option ℕ → Type 0
-FitsReplica shape pairs to content (Some v) = (to ≡ standby_node shape.nodes v) × (HasLogNumber content → StandbyFits shape.nodes (pairs.standbys v) content)
+FitsReplica shape pairs to content (Some v) = (to ≡ standby_node shape.nodes v) × StandbyFits shape.nodes (pairs.standbys v) content
 FitsReplica shape pairs to content None = Fits shape.nodes (pairs.primaries to) content
 
 -- a message fits its receiver

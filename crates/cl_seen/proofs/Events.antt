@@ -6,6 +6,7 @@ use Rattle.std.proofs.lemmas.Bool.{true≢false, cond-true, cond-false, cond_bot
 use Rattle.std.proofs.lemmas.List.{append-nil}
 use Rattle.std.proofs.lemmas.List.Sorted.{IsPermutation-refl}
 use Rattle.std.specs.List.{fold}
+use Rattle.cl_node.specs.Members.{standby_node}
 use Rattle.cl_actor.specs.Core.{CoreStep}
 use Rattle.cl_endpoint.specs.Laws.{contents_to}
 use Rattle.cl_endpoint.specs.declared.limits.TheConstants.{ACTORS}
@@ -324,7 +325,7 @@ module _ (shape : Shape) (size : IsClusterSize shape.nodes shape.spares) (keep :
           paired = sees.paired;
           mail = λ a b. sees.mail a b ∙ ap (λ list. list ++ to_tell shape.nodes pairs a b)
               (sym (inward_off shape.nodes size.counted pairs from to (Log v number entry) rest waits_so refl a b)
-              ∙ sym (given v number (eqb a (pair.standby_node shape.nodes v)) (off.mail a b) b));
+              ∙ sym (given v number (eqb a (standby_node shape.nodes v)) (off.mail a b) b));
         } in
         record {
           may = subst (λ events. EachMayHappen MayFirm (after_firm_event shape) events firm) (sym events_are) join_now.0;

@@ -16,7 +16,6 @@ use Rattle.cl_log.proofs.Entries.{IsNumberedFrom-append, number_at, EachAfter-at
 use Rattle.cl_log.proofs.Rest.{first_of_rest_is, HeadsRest-from, undoes-undo_of}
 use Rattle.cl_log.specs.declared.records.LogRec.{LogRec}
 use Rattle.cl_log.specs.declared.records.LogRec.TheVariants as records
-use Rattle.cl_log.specs.declared.log.TheConstants.{LOG_NUMBER_MAX}
 use Rattle.cl_log.specs.Kind.{txn_of, writes, number_before, undoes}
 use Rattle.cl_log.specs.Lawful.{UndoesFirst, is_decide, IsLawful, IsLawfulLog}
 use Rattle.cl_log.specs.Locks.{mode_at, takes_lock, locks_of_log}
@@ -53,7 +52,8 @@ use Rattle.cl_seen.proofs.Decided.{AreDecided, HasDecided}
 use Rattle.cl_seen.proofs.Lists.{All-second}
 use Rattle.cl_pairs.proofs.Streams.{HasStreams}
 use Rattle.cl_seen.proofs.Beside.{Sees, IsDecided, IsSafe}
-use Rattle.cl_pairs.specs.Pairs.{PairWorld, standby_node}
+use Rattle.cl_pairs.specs.Pairs.{PairWorld}
+use Rattle.cl_node.specs.Members.{standby_node}
 use Rattle.cl_pairs.specs.Streams.{is_log_of, log_of}
 
 -- ---- what waits
@@ -293,9 +293,9 @@ module _ (shape : Shape) (counted : IsNodeCount shape.nodes) (pairs : PairWorld)
       (subst (λ (state : ReplicaState). Fits shape.nodes state content) (sym (sees.replicas to below)) fits)
 
   -- a log record fits its standby
-  pub log_fits : IsSafe shape pairs → (v number : ℕ) (content : LogRec) → number ≤ LOG_NUMBER_MAX → IsNext (pairs.standbys v).part number content →
+  pub log_fits : IsSafe shape pairs → (v number : ℕ) (content : LogRec) → IsNext (pairs.standbys v).part number content →
       StandbyFits shape.nodes (pairs.standbys v) (Log v number content)
-  log_fits safe v number content most is = record {
+  log_fits safe v number content is = record {
     same_nodes = sym (safe.same_nodes v);
-    comes = record { next = is.next; fits = most; carries = is.carries; free = is.free; unended = is.unended };
+    comes = record { next = is.next; carries = is.carries; free = is.free; unended = is.unended };
   }

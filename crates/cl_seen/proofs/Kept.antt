@@ -2,6 +2,7 @@
 use Rattle.std.proofs.Common.{◌≡◌, ℕ, ◌+◌, ◌%◌, ◌<◌, eqb, Bool, true, List, [], ◌∷◌, ◌++◌, map, All, refl, sym, ◌∙◌, subst, arith}
 use Rattle.std.proofs.lemmas.Bool.{cond_both}
 use Rattle.std.proofs.lemmas.List.Elements.{All-nil, All-cons, All-push, All-append, All-weaker}
+use Rattle.cl_node.specs.Members.{standby_node}
 use Rattle.cl_actor.specs.Core.{CoreStep}
 use Rattle.cl_front.specs.Front.{FrontState}
 use Rattle.cl_log.specs.declared.records.LogRec.{LogRec}
@@ -182,7 +183,7 @@ module _ (shape : Shape) (counted : IsNodeCount shape.nodes) (pairs : pair.PairW
         let before : ReplicaState = pairs.primaries to in
         let step : Stepped = stepped own_primary before from content mark in
         let stream = streams.streams to in
-        let standby : ℕ = pair.standby_node shape.nodes to in
+        let standby : ℕ = standby_node shape.nodes to in
         let shipped : HasShipped standby before (modes_with before.modes content) step
         = shipped-step own_primary standby before from content mark stream.primary_said (modes_mode before.modes content ∙ stream.mode) in
         let now : IsSafeMail shape.nodes (with_firm pairs.history step.step.firm) (with_mail off.mail to step.step.sends)
@@ -207,9 +208,9 @@ module _ (shape : Shape) (counted : IsNodeCount shape.nodes) (pairs : pair.PairW
         let before : ReplicaState = pairs.standbys v in
         let step : Stepped = standby_stepped before from (Log v number entry) in
         let now : IsSafeMail shape.nodes (with_firm pairs.history (firm_of entry))
-        (with_mail off.mail (pair.standby_node shape.nodes v) (sent from (LogAck v number) ∷ []))
-        = mail_stays shape.nodes pairs.history (firm_of entry) (with_mail off.mail (pair.standby_node shape.nodes v) (sent from (LogAck v number) ∷ []))
-        (mail_sent shape.nodes pairs.history off.mail (pair.standby_node shape.nodes v) (sent from (LogAck v number) ∷ []) (mail_off from to content rest waits)
+        (with_mail off.mail (standby_node shape.nodes v) (sent from (LogAck v number) ∷ []))
+        = mail_stays shape.nodes pairs.history (firm_of entry) (with_mail off.mail (standby_node shape.nodes v) (sent from (LogAck v number) ∷ []))
+        (mail_sent shape.nodes pairs.history off.mail (standby_node shape.nodes v) (sent from (LogAck v number) ∷ []) (mail_off from to content rest waits)
         (All-cons (λ (send : Outgoing). IsSafeMessage shape.nodes pairs.history send.payload) (sent from (LogAck v number)) [] (below, tt)
         (All-nil (λ (send : Outgoing). IsSafeMessage shape.nodes pairs.history send.payload)))) in
         record {

@@ -6,5 +6,8 @@ pub mod Telling
 pub mod Decided
 pub mod Fits
 pub mod Kept
+pub mod Addressed
 pub mod Next
 pub mod Runs
+pub mod Quiet
+pub mod EveryRun

@@ -2,6 +2,7 @@
 use Rattle.std.proofs.Common.{◌≡◌, ℕ, ◌+◌, ◌<◌, max, eqb, Bool, true, false, List, ◌∷◌, ◌++◌, length, All, refl, sym, ◌∙◌, ap, subst, arith}
 use Rattle.std.proofs.lemmas.Bool.{true≢false, ne_eqb, eq-eqb, eqb-true, cond-true, cond-false}
 use Rattle.std.proofs.lemmas.List.Elements.{All-head}
+use Rattle.cl_node.specs.Members.{standby_node}
 use Rattle.cl_actor.specs.Core.{CoreStep}
 use Rattle.cl_commit.specs.Life.{CommitsWhole}
 use Rattle.cl_exchange.specs.Laws.{IsSoundWorld, EventsFit, EventsKeepSound}
@@ -82,7 +83,7 @@ node_away nodes v counted below = let bounds = node_count-bounds nodes counted i
     (λ e. let same : v ≡ 16 = e in absurd (omega (arith, bounds.1, below, same)))
 
 -- each standby is at a node
-standby_under : (nodes v : ℕ) → IsNodeCount nodes → pair.standby_node nodes v < nodes
+standby_under : (nodes v : ℕ) → IsNodeCount nodes → standby_node nodes v < nodes
 standby_under nodes v counted = let bounds = node_count-bounds nodes counted in omega (arith, bounds.0)
 
 module _ (steps : StepsAreSeenAlone) (acks : AcksTell) (both : FitsBoth) (keep : EventsKeepSound) (events_fit : EventsFit) (keeps : RecordsKeepReplica)
@@ -164,12 +165,12 @@ module _ (steps : StepsAreSeenAlone) (acks : AcksTell) (both : FitsBoth) (keep :
         IsGoodMessage shape pairs firm from to mark (Log v number entry)
     unfolding pair.after_pair_event
     log_good v number entry rest waits =
-        let between : (from ≡ v) × (to ≡ pair.standby_node shape.nodes v)
+        let between : (from ≡ v) × (to ≡ standby_node shape.nodes v)
         = All-head (IsBetween shape.nodes from to) (Log v number entry) rest (subst (All (IsBetween shape.nodes from to)) waits (knows.streams.ways from to)) in
         let below : v < shape.nodes = All-head (IsInternalBelow shape.nodes) (Log v number entry) rest
         (subst (All (IsInternalBelow shape.nodes)) waits (knows.safe.below from to)) in
-        let here : pairs.mail v (pair.standby_node shape.nodes v) ≡ Log v number entry ∷ rest
-        = ap (λ n. pairs.mail n (pair.standby_node shape.nodes v)) (sym between.0) ∙ (ap (pairs.mail from) (sym between.1) ∙ waits) in
+        let here : pairs.mail v (standby_node shape.nodes v) ≡ Log v number entry ∷ rest
+        = ap (λ n. pairs.mail n (standby_node shape.nodes v)) (sym between.0) ∙ (ap (pairs.mail from) (sym between.1) ∙ waits) in
         let away : eqb to FRONT ≡ false
         = node_away shape.nodes to size.counted (subst (λ n. n < shape.nodes) (sym between.1) (standby_under shape.nodes v size.counted)) in
         let next : IsNext (pairs.standbys v).part number entry
@@ -179,7 +180,7 @@ module _ (steps : StepsAreSeenAlone) (acks : AcksTell) (both : FitsBoth) (keep :
         (record pairs { mail = with_way pairs.mail from to rest }) v step
         = ap (pair.after_first shape pairs from to mark) waits ∙ cond-false _ _ _ away in (
           node_fits shape pairs from to (Log v number entry) away
-              (between.1, λ most. log_fits shape size.counted pairs firm knows.sees knows.streams knows.safe v number entry most next),
+              (between.1, log_fits shape size.counted pairs firm knows.sees knows.streams knows.safe v number entry next),
           record {
             seen = log_seen shape size keep pairs firm knows.sees knows.sound from to mark (Log v number entry) rest waits v number entry refl away
                 (log_decided shape size.counted pairs firm knows.sees knows.streams knows.decided v number entry rest below here);
@@ -193,13 +194,13 @@ module _ (steps : StepsAreSeenAlone) (acks : AcksTell) (both : FitsBoth) (keep :
         IsGoodMessage shape pairs firm from to mark (LogAck v number)
     unfolding pair.after_pair_event
     ack_good v number rest waits =
-        let between : (from ≡ pair.standby_node shape.nodes v) × (to ≡ v)
+        let between : (from ≡ standby_node shape.nodes v) × (to ≡ v)
         = All-head (IsBetween shape.nodes from to) (LogAck v number) rest (subst (All (IsBetween shape.nodes from to)) waits (knows.streams.ways from to)) in
         let under : v < shape.nodes = All-head (IsInternalBelow shape.nodes) (LogAck v number) rest
         (subst (All (IsInternalBelow shape.nodes)) waits (knows.safe.below from to)) in
         let below : to < shape.nodes = subst (λ n. n < shape.nodes) (sym between.1) under in
         let away : eqb to FRONT ≡ false = node_away shape.nodes to size.counted below in
-        let here : pairs.mail (pair.standby_node shape.nodes v) v ≡ LogAck v number ∷ rest
+        let here : pairs.mail (standby_node shape.nodes v) v ≡ LogAck v number ∷ rest
         = ap (λ n. pairs.mail n v) (sym between.0) ∙ (ap (pairs.mail from) (sym between.1) ∙ waits) in
         let taken_v : number < (pairs.standbys v).part.next
         = All-head (IsAckBelow v (pairs.standbys v).part.next) (LogAck v number) rest

@@ -1,5 +1,5 @@
 -- Every run of pairs is seen as one of the firm system, by induction over its events, one more at the end.
-use Rattle.std.proofs.Common.{◌≡◌, ℕ, nat_lt, cond, true, false, List, [], ◌∷◌, ◌++◌, append_assoc, Some, refl, sym, ◌∙◌, ap, subst}
+use Rattle.std.proofs.Common.{◌≡◌, ℕ, nat_lt, cond, true, false, List, [], ◌∷◌, ◌++◌, append_assoc, All, Some, refl, sym, ◌∙◌, ap, subst}
 use Rattle.std.proofs.Math.Path.{subst₂}
 use Rattle.std.proofs.lemmas.List.{append-nil}
 use Rattle.std.proofs.lemmas.List.Elements.{All-nil}
@@ -18,27 +18,32 @@ use Rattle.cl_runs.specs.Queues.{sent_to, QueueEvent}
 use Rattle.cl_runs.specs.World.{Shape, EachMayHappen}
 use Rattle.cl_system.specs.Firm.{FirmWorld, TellsFirm, MayFirm, after_firm_event, first_firm_world, firm_world_after, IsFirmRun}
 use Rattle.cl_system.specs.Replicas.{own_primary}
+use Rattle.cl_system.specs.Roles.{IsAddressed}
 use Rattle.cl_vnode.specs.Replica.{new_replica}
 use Rattle.cl_wire.specs.Message.{Content}
+use Rattle.cl_seen.proofs.Addressed.{all_addressed}
 use Rattle.cl_seen.proofs.Decided.{decided_after}
+use Rattle.cl_seen.proofs.Lists.{All-first}
 use Rattle.cl_seen.proofs.Next.{Knows, IsGood, event_good, event_fits}
 use Rattle.cl_pairs.proofs.Streams.{streams_after}
 use Rattle.cl_seen.proofs.Beside.{Sees, IsDecided, IsInternalBelow, IsSafe}
-use Rattle.cl_seen.specs.Laws.{IsSeen, PairRunsAreSeen, PairInputsFit}
-use Rattle.cl_pairs.specs.Pairs.{PairWorld, standby_node, after_pair_event, first_pair_world, pair_world_after, MayPairs, IsPairRun, PairEventFits}
-use Rattle.cl_seen.specs.Seen.{seen_mail, seen_event, seen_from, seen_events}
+use Rattle.cl_seen.specs.Laws.{IsSeen, PairRunsAreSeen, PairInputsFit, PairMessagesAreAddressed}
+use Rattle.cl_pairs.specs.Pairs.{PairWorld, after_pair_event, first_pair_world, pair_world_after, MayPairs, IsPairRun, PairEventFits}
+use Rattle.cl_node.specs.Members.{standby_node}
+use Rattle.cl_seen.specs.Seen.{outward, to_tell, seen_mail, seen_event, seen_from, seen_events}
+use Rattle.cl_seen.specs.Ways.{IsPairAddressed}
 
 -- ---- lists of events
 
 -- what may happen, and then what may happen from there on
-each_append : {W E : Type 0} (May : W → E → Type 0) (next : W → E → W) (events more : List E) (state : W) → EachMayHappen May next events state →
-    EachMayHappen May next more (fold next state events) → EachMayHappen May next (events ++ more) state
+pub each_append : {W E : Type 0} (May : W → E → Type 0) (next : W → E → W) (events more : List E) (state : W) →
+    EachMayHappen May next events state → EachMayHappen May next more (fold next state events) → EachMayHappen May next (events ++ more) state
 each_append May next [] more state may then = then
 each_append May next (event ∷ events) more state may then = (may.0, each_append May next events more (next state event) may.1 then)
 
 -- the first ones of events that may happen may happen, and the others after them
-each_parts : {W E : Type 0} (May : W → E → Type 0) (next : W → E → W) (events more : List E) (state : W) → EachMayHappen May next (events ++ more) state →
-    EachMayHappen May next events state × EachMayHappen May next more (fold next state events)
+pub each_parts : {W E : Type 0} (May : W → E → Type 0) (next : W → E → W) (events more : List E) (state : W) →
+    EachMayHappen May next (events ++ more) state → EachMayHappen May next events state × EachMayHappen May next more (fold next state events)
 each_parts May next [] more state may = (tt, may)
 each_parts May next (event ∷ events) more state may =
     let rest = each_parts May next events more (next state event) may.1 in
@@ -56,11 +61,11 @@ module _ {W E : Type 0} (May : W → E → Type 0) (next : W → E → W) (first
       (holds_on more (events ++ event ∷ []) (keeps events event (each_parts May next (events ++ event ∷ []) more first longer).0 holds) longer)
 
   -- what holds at the start, and of one event more, holds of all that may happen
-  holds_of_all : Holds [] → (events : List E) → EachMayHappen May next events first → Holds events
+  pub holds_of_all : Holds [] → (events : List E) → EachMayHappen May next events first → Holds events
   holds_of_all start events may = holds_on events [] start may
 
 -- what two lists of events are
-seen_append : (shape : Shape) (events more : List QueueEvent) (pairs : PairWorld) →
+pub seen_append : (shape : Shape) (events more : List QueueEvent) (pairs : PairWorld) →
     seen_from shape (events ++ more) pairs ≡ seen_from shape events pairs ++ seen_from shape more (fold (after_pair_event shape) pairs events)
 seen_append shape [] more pairs = refl
 seen_append shape (event ∷ events) more pairs =
@@ -70,19 +75,19 @@ seen_append shape (event ∷ events) more pairs =
 
 module _ (shape : Shape) (events : List QueueEvent) (event : QueueEvent) where
   -- the system after one event more
-  pairs_push : pair_world_after shape (events ++ event ∷ []) ≡ after_pair_event shape (pair_world_after shape events) event
+  pub pairs_push : pair_world_after shape (events ++ event ∷ []) ≡ after_pair_event shape (pair_world_after shape events) event
   unfolding pair_world_after
   pairs_push = fold-append (after_pair_event shape) (first_pair_world shape) events (event ∷ [])
 
   -- what the events are then
-  seen_push : seen_events shape (events ++ event ∷ []) ≡ seen_events shape events ++ seen_event shape (pair_world_after shape events) event
+  pub seen_push : seen_events shape (events ++ event ∷ []) ≡ seen_events shape events ++ seen_event shape (pair_world_after shape events) event
   unfolding seen_events pair_world_after
   seen_push = seen_append shape events (event ∷ []) (first_pair_world shape)
       ∙ ap (λ list. seen_from shape events (first_pair_world shape) ++ list)
       (append-nil (seen_event shape (fold (after_pair_event shape) (first_pair_world shape) events) event))
 
   -- the firm system after it
-  firm_push : firm_world_after shape (seen_events shape (events ++ event ∷ []))
+  pub firm_push : firm_world_after shape (seen_events shape (events ++ event ∷ []))
       ≡ fold (after_firm_event shape) (firm_world_after shape (seen_events shape events)) (seen_event shape (pair_world_after shape events) event)
   unfolding firm_world_after
   firm_push = ap (λ list. fold (after_firm_event shape) (first_firm_world shape) list) seen_push
@@ -95,7 +100,7 @@ record IsKept (shape : Shape) (events : List QueueEvent) : Type 0 where
   safe : IsSafe shape (pair_world_after shape events)
 
 -- nothing is sent
-none_sent : (to : ℕ) → sent_to to [] ≡ []
+pub none_sent : (to : ℕ) → sent_to to [] ≡ []
 none_sent to = elim (nat_lt to ACTORS) as (λ b. ◌≡◌ {A = List Content} (cond {A = List Content} b [] []) []) [ true ↦ refl | false ↦ refl ]
 
 module _ (first : FirstIsPaired) (new_sound : NewIsSound) (steps : StepsAreSeenAlone) (acks : AcksTell) (both : FitsBoth) (keep : EventsKeepSound)
@@ -190,6 +195,16 @@ module _ (first : FirstIsPaired) (new_sound : NewIsSound) (steps : StepsAreSeenA
       event_fits steps acks both keep fit keeps shape size (pair_world_after shape events) (firm_world_after shape (seen_events shape events))
       (knows events (kept_after events may)) event next
 
+  -- each message on its way is between the actors that its kind names
+  addressed_after : (events : List QueueEvent) → IsPairRun shape events → (from to : ℕ) →
+      All (IsPairAddressed shape.nodes from to) ((pair_world_after shape events).mail from to)
+  addressed_after events may from to =
+      let pairs : PairWorld = pair_world_after shape events in
+      let known = knows events (kept_after events may) in
+      all_addressed shape.nodes from to (pairs.mail from to) (known.safe.below from to) (known.streams.ways from to)
+      (All-first (IsAddressed shape.nodes from to) (outward (pairs.mail from to)) (to_tell shape.nodes pairs from to)
+      (subst (All (IsAddressed shape.nodes from to)) (known.sees.mail from to) (known.sound.places.messages from to)))
+
 -- the law of runs
 pub pair_runs_are_seen : FirstIsPaired → NewIsSound → StepsAreSeenAlone → AcksTell → FitsBoth → EventsKeepSound → EventsFit → RecordsKeepReplica →
     FirmRunsKeepOneOrder → PairRunsAreSeen
@@ -201,3 +216,9 @@ pub pair_inputs_fit : FirstIsPaired → NewIsSound → StepsAreSeenAlone → Ack
     FirmRunsKeepOneOrder → PairInputsFit
 pair_inputs_fit first new_sound steps acks both keep fit keeps order shape events event size may next =
     fits_after first new_sound steps acks both keep fit keeps order shape size events event may next
+
+-- the law of messages on their way
+pub pair_messages_are_addressed : FirstIsPaired → NewIsSound → StepsAreSeenAlone → AcksTell → FitsBoth → EventsKeepSound → EventsFit → RecordsKeepReplica →
+    FirmRunsKeepOneOrder → PairMessagesAreAddressed
+pair_messages_are_addressed first new_sound steps acks both keep fit keeps order shape events size may =
+    addressed_after first new_sound steps acks both keep fit keeps order shape size events may

@@ -1,5 +1,5 @@
 -- What a run of pairs is for the firm system.
-use Rattle.std.specs.Prelude.{◌≡◌, ℕ, ◌<◌, List}
+use Rattle.std.specs.Prelude.{◌≡◌, ℕ, ◌<◌, List, All}
 use Rattle.cl_paired.specs.Paired.{at_once, IsPaired}
 use Rattle.cl_pairs.specs.Laws.{OfPairRuns}
 use Rattle.cl_pairs.specs.Pairs.{IsPairRun, pair_world_after, MayPairs, PairEventFits}
@@ -7,6 +7,7 @@ use Rattle.cl_roster.specs.Roster.{IsClusterSize}
 use Rattle.cl_runs.specs.Queues.{QueueEvent}
 use Rattle.cl_runs.specs.World.{Shape}
 use Rattle.cl_seen.specs.Seen.{seen_mail, seen_events}
+use Rattle.cl_seen.specs.Ways.{IsPairAddressed}
 use Rattle.cl_system.specs.Firm.{firm_world_after, IsFirmRun}
 use Rattle.cl_system.specs.Replicas.{own_primary}
 
@@ -30,3 +31,7 @@ PairRunsAreSeen = OfPairRuns IsSeen
 abbrev pub PairInputsFit : Type 0
 PairInputsFit = (shape : Shape) (events : List QueueEvent) (event : QueueEvent) → IsClusterSize shape.nodes shape.spares → IsPairRun shape events → MayPairs (pair_world_after shape events) event →
     PairEventFits shape (pair_world_after shape events) event
+
+-- each message on its way goes between the actors that its kind names
+abbrev pub PairMessagesAreAddressed : Type 0
+PairMessagesAreAddressed = OfPairRuns (λ shape events. (from to : ℕ) → All (IsPairAddressed shape.nodes from to) ((pair_world_after shape events).mail from to))

@@ -1,20 +1,11 @@
-use Rattle.cl_commit.proofs.Reordering.{reorder_keeps_whole}
-use Rattle.cl_exchange.proofs.Reordering.{reorder_keeps_sound}
-use Rattle.cl_exchange.proofs.Runs.{events_fit, events_keep_sound}
-use Rattle.cl_ledger.proofs.Runs.{firm_runs_keep_one_order}
-use Rattle.cl_seen.proofs.Runs.{pair_runs_are_seen, pair_inputs_fit}
+use Rattle.cl_seen.proofs.EveryRun.{pair_runs_are_seen, pair_inputs_fit, pair_messages_are_addressed}
 use Rattle.cl_seen.proofs.laws.pair_runs_are_seen.Goals as goal
-use Rattle.cl_paired.proofs.Acknowledging.{acks_tell}
-use Rattle.cl_paired.proofs.Starting.{first_is_paired, fits_both}
-use Rattle.cl_paired.proofs.Taking.{steps_are_seen_alone}
-use Rattle.cl_part.proofs.Soundness.{new_is_sound, IsReplicaOf-record}
 
 pub returns-clause-seen : goal.returns-clause-seen
-returns-clause-seen c =
-    pair_runs_are_seen first_is_paired new_is_sound steps_are_seen_alone acks_tell fits_both events_keep_sound events_fit IsReplicaOf-record
-    (firm_runs_keep_one_order reorder_keeps_sound reorder_keeps_whole)
+returns-clause-seen c = pair_runs_are_seen
 
 pub returns-clause-fits : goal.returns-clause-fits
-returns-clause-fits c =
-    pair_inputs_fit first_is_paired new_is_sound steps_are_seen_alone acks_tell fits_both events_keep_sound events_fit IsReplicaOf-record
-    (firm_runs_keep_one_order reorder_keeps_sound reorder_keeps_whole)
+returns-clause-fits c = pair_inputs_fit
+
+pub returns-clause-addressed : goal.returns-clause-addressed
+returns-clause-addressed c = pair_messages_are_addressed
