@@ -12,7 +12,6 @@ pub mod Fronts
 pub mod Resting
 pub mod Heard
 pub mod Events
-pub mod Inputs
 pub mod Runs
 pub mod Reordering
 pub mod Firm

@@ -1,5 +1,5 @@
-//! What holds of every run. Each function does nothing: its contract is a law of the definitions.
-ghost use Rattle.cl_exchange.specs.Laws.{SoundAtFirst, EventsFit, EventsKeepSound, ReorderKeepsSound, FirmRunsAreSound, RunsAreReplicaRuns, EveryInputFits};
+//! What holds of every run. The function does nothing: its contract is a law of the definitions.
+ghost use Rattle.cl_exchange.specs.Laws.{SoundAtFirst, EventsFit, EventsKeepSound, ReorderKeepsSound, FirmRunsAreSound};
 
 /// Each session is at one stage: outside a transaction, between two commands, or with a command that is in exactly one
 /// place: on its way to the controller, in work there, or answered and on its way back.
@@ -9,11 +9,4 @@ pub fn sessions_are_at_stages()
     ensures keeps { EventsKeepSound }
     ensures reorder { ReorderKeepsSound }
     ensures runs { FirmRunsAreSound }
-{}
-
-/// In every run, also where quiet moments come at any time, what may happen meets the conditions of every call that it
-/// makes.
-pub fn every_input_fits()
-    ensures replicas { RunsAreReplicaRuns }
-    ensures fits { EveryInputFits }
 {}

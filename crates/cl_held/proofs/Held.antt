@@ -42,9 +42,11 @@ use Rattle.cl_pairs.proofs.Streams.{streams_after}
 use Rattle.cl_pairs.proofs.Keeping.{IsStream}
 use Rattle.cl_pairs.proofs.Logs.{counted-said}
 use Rattle.cl_seen.specs.Laws.{IsSeen, PairRunsAreSeen}
-use Rattle.cl_pairs.specs.Pairs.{PairWorld, standby_node, pair_world_after, IsPairRun}
+use Rattle.cl_pairs.specs.Pairs.{PairWorld, pair_world_after, IsPairRun}
+use Rattle.cl_node.specs.Members.{standby_node}
 use Rattle.cl_seen.specs.Seen.{outward, to_tell, seen_events}
-use Rattle.cl_held.specs.Held.{is_work, IsHeld}
+use Rattle.cl_held.specs.Held.{IsHeld}
+use Rattle.cl_held.specs.Work.{is_work}
 use Rattle.cl_held.specs.Laws.{PairsHold}
 use Rattle.cl_held.proofs.Decisions.{decided_longer, own_from}
 use Rattle.cl_held.proofs.Firm.{firm_tidy}

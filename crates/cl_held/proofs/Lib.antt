@@ -6,3 +6,4 @@ pub mod Firm
 pub mod Decisions
 pub mod Members
 pub mod Held
+pub mod EveryRun

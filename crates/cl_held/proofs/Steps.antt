@@ -26,7 +26,7 @@ use Rattle.cl_vnode.specs.Inputs.{has_decide}
 use Rattle.cl_vnode.specs.Replica.{ReplicaState}
 use Rattle.cl_vnode.specs.Step.{Stepped, started, with_part, after_finish, asked, prepared, finished}
 use Rattle.cl_wire.specs.Message.{Content, Command, Answer, Vote, Ask, Prepare, Finish, Decision}
-use Rattle.cl_held.specs.Held.{is_work}
+use Rattle.cl_held.specs.Work.{is_work}
 use Rattle.cl_held.proofs.Tidy.{DecidesAt, IsTidy, tidy_idle, tidy_work}
 
 -- what is no Decide decides nothing

@@ -13,7 +13,7 @@ use Rattle.cl_node.specs.Addressing.{home_in}
 use Rattle.cl_system.specs.Roles.{IsOfSession}
 use Rattle.cl_types.proofs.Transactions.{same_txn-true}
 use Rattle.cl_types.specs.declared.operations.TxnId.{TxnId}
-use Rattle.cl_held.specs.Held.{is_work}
+use Rattle.cl_held.specs.Work.{is_work}
 
 -- ---- records of a transaction
 

@@ -1,7 +1,5 @@
 -- What every member of a virtual node holds of the transactions that are firm.
-use Rattle.std.specs.Prelude.{◌≡◌, ℕ, ◌<◌, Bool, true, false, ◌&&◌}
-use Rattle.cl_log.specs.declared.records.LogRec.{LogRec}
-use Rattle.cl_log.specs.declared.records.LogRec.TheVariants.{Touch, Set, Add, Prepared}
+use Rattle.std.specs.Prelude.{◌≡◌, ℕ, ◌<◌, true, ◌&&◌}
 use Rattle.cl_log.specs.Kind.{is_of}
 use Rattle.cl_log.specs.LogEntry.{LogEntry}
 use Rattle.cl_log.specs.Open.{is_among}
@@ -10,14 +8,7 @@ use Rattle.cl_pairs.specs.Pairs.{PairWorld}
 use Rattle.cl_runs.specs.World.{Shape}
 use Rattle.cl_serial.specs.Serial.{IsIn}
 use Rattle.cl_types.specs.declared.operations.TxnId.{TxnId}
-
--- the record locks, writes or votes
-abbrev pub is_work : LogRec → Bool
-is_work (Touch txn table key mode) = true
-is_work (Set txn table key before old new) = true
-is_work (Add txn table key before amount) = true
-is_work (Prepared txn) = true
-is_work content = false
+use Rattle.cl_held.specs.Work.{is_work}
 
 -- a firm transaction is held by both members of each virtual node: its decision at its home, and its work wherever it has some
 pub record IsHeld (shape : Shape) (pairs : PairWorld) (txn : TxnId) : Type 0 where

@@ -2,6 +2,4 @@ pub mod Sends
 pub mod Controls
 pub mod ReplicaSends
 pub mod Places
-pub mod Nodes
-pub mod Alike
 pub mod Reordering

@@ -4,4 +4,4 @@
 
 mod laws;
 
-pub use laws::{all_is_in_place, cores_are_replicas};
+pub use laws::all_is_in_place;
