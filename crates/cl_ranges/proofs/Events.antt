@@ -1,6 +1,6 @@
--- Each event keeps all in range.
+-- Each event of the system that is not spent keeps all in range.
 use Rattle.std.proofs.Common.{◌≡◌, ℕ, ◌+◌, ◌<◌, ◌&&◌, Bool, true, false, cond, eqb, ltb, List, [], ◌∷◌, ◌++◌, All, filter, get_or, refl, sym, subst, arith}
-use Rattle.std.proofs.lemmas.Bool.{cond_both, eqb-true, eqb-false}
+use Rattle.std.proofs.lemmas.Bool.{cond_both, eqb-false}
 use Rattle.std.proofs.lemmas.List.Elements.{All-nil, All-head, All-tail, All-append, All-map, All-filter, All-replicate}
 use Rattle.cl_actor.specs.Core.{CoreStep}
 use Rattle.cl_endpoint.specs.declared.limits.TheConstants.{ACTORS}
@@ -14,7 +14,7 @@ use Rattle.cl_lone.specs.Lone.{lone_step}
 use Rattle.cl_ranges.proofs.Fronts.{IsUnnumbered, IsFrontStepInRange, no_session_range, line_range, message_range}
 use Rattle.cl_ranges.proofs.Numbers.{IsNumbered, mail_numbered}
 use Rattle.cl_ranges.proofs.Replicas.{IsStepInRange, first_replica_range, replica_step}
-use Rattle.cl_ranges.specs.Laws.{IsUnspentEvent, InRangeAtFirst, EventsKeepRange}
+use Rattle.cl_ranges.specs.Laws.{IsUnspentMessage, IsUnspentEvent}
 use Rattle.cl_ranges.specs.Ranges.{IsReplicaInRange, IsSessionInRange, IsWorldInRange}
 use Rattle.cl_roster.specs.Roster.{IsClusterSize}
 use Rattle.cl_runs.specs.Queues.{sent_to, QueueEvent, deliver, take_line, quieten, nothing}
@@ -22,17 +22,20 @@ use Rattle.cl_runs.specs.World.{Shape}
 use Rattle.cl_steps.specs.declared.actors.TheConstants.{FRONT}
 use Rattle.cl_steps.specs.declared.steps.Outgoing.{Outgoing}
 use Rattle.cl_system.proofs.Places.{receiver_below}
-use Rattle.cl_system.specs.Replicas.{ReplicaWorld, Mail, own_primary, nothing_noted, with_mail, with_way, front_acts, replica_acts, after_message, after_first, after_replica_event}
+use Rattle.cl_system.specs.Firm.{FirmWorld, happens}
+use Rattle.cl_system.specs.Replicas.{ReplicaWorld, Mail, own_primary, nothing_noted, with_mail, with_way, front_acts, replica_acts, after_message, after_first, after_replica_event, first_replica_world, MayReplicas}
 use Rattle.cl_system.specs.Roles.{IsAddressed, IsInPlace}
 use Rattle.cl_types.proofs.PlacementLaws.{node_count-bounds}
 use Rattle.cl_types.specs.declared.limits.TheConstants.{SESSIONS_MAX}
 use Rattle.cl_types.specs.Placement.{IsNodeCount}
+use Rattle.cl_vnode.specs.Inputs.{is_spent}
 use Rattle.cl_vnode.specs.Step.{Stepped}
 use Rattle.cl_wire.specs.Message.{Content}
 use Rattle.cl_wire.specs.Message as message
 use Rattle.cl_wire.specs.Range.{IsContent}
 
-pub in_range_at_first : InRangeAtFirst
+-- at the start all is in range
+pub in_range_at_first : (shape : Shape) → IsWorldInRange (first_replica_world shape)
 in_range_at_first shape = record {
   sessions = All-replicate IsSessionInRange SESSIONS_MAX no_session no_session_range;
   replicas = λ v. first_replica_range v shape.nodes;
@@ -103,34 +106,45 @@ replica_range world v stepped are is = record {
   mail = with_mail_range world.mail v stepped.step.sends are.mail (λ to. sent_to_all IsContent to stepped.step.sends is.sends);
 }
 
+-- a message that comes to the front, in a step that is not spent
+front_unspent : (shape : Shape) (world : ReplicaWorld) (from to : ℕ) (content : Content) → IsUnspentMessage shape world from to content →
+    eqb to FRONT ≡ true → is_delivery_spent (nothing_noted shape) world.front from content ≡ false
+front_unspent shape world from to content unspent here = rw here at unspent
+
+-- one that comes to a replica
+replica_unspent : (shape : Shape) (world : ReplicaWorld) (from to : ℕ) (content : Content) → IsUnspentMessage shape world from to content →
+    eqb to FRONT ≡ false → is_spent (world.replicas to) content ≡ false
+replica_unspent shape world from to content unspent away = rw away at unspent
+
 module _ (shape : Shape) (counted : IsNodeCount shape.nodes) where
   -- the replica of a virtual node takes a message
   node_range : (world : ReplicaWorld) (from to : ℕ) (content : Content) (mark : Bool) → to < shape.nodes → IsInPlace shape.nodes to (world.replicas to) → IsReplicaInRange (world.replicas to) → IsContent content →
-      IsStepInRange (lone_step own_primary (world.replicas to) from content mark)
-  node_range world from to content mark below place range is =
+      is_spent (world.replicas to) content ≡ false → IsStepInRange (lone_step own_primary (world.replicas to) from content mark)
+  node_range world from to content mark below place range is unspent =
       let few = node_count-bounds shape.nodes counted in
       let own : IsVirtualNode (world.replicas to).v = (let same = place.own in omega (arith, same, few.1)) in
-      replica_step (world.replicas to) from (subst IsNodeCount (sym place.same_nodes) counted) own range content mark is
+      replica_step (world.replicas to) from (subst IsNodeCount (sym place.same_nodes) counted) own range content mark is unspent
 
   -- a message comes to the front, or to a replica
   message_keeps : (world : ReplicaWorld) (from to : ℕ) (content : Content) (mark : Bool) → IsWorldInRange world → IsContent content → IsAddressed shape.nodes from to content →
       ((v : ℕ) → v < shape.nodes → IsInPlace shape.nodes v (world.replicas v)) →
-      (to ≡ FRONT → is_delivery_spent (nothing_noted shape) world.front from content ≡ false) →
+      (eqb to FRONT ≡ true → is_delivery_spent (nothing_noted shape) world.front from content ≡ false) →
+      (eqb to FRONT ≡ false → is_spent (world.replicas to) content ≡ false) →
       ((n : ℕ) → All IsNumbered ((after_message shape world from to content mark).mail FRONT n)) → IsWorldInRange (after_message shape world from to content mark)
-  message_keeps world from to content mark are is way places unspent =
+  message_keeps world from to content mark are is way places front_is replica_is =
       elim (eqb to FRONT) as (λ b. (eqb to FRONT ≡ b) → ((n : ℕ) → All IsNumbered ((cond b (front_acts world (delivered_front (nothing_noted shape) world.front from content mark))
       (replica_acts world to (lone_step own_primary (world.replicas to) from content mark))).mail FRONT n)) → IsWorldInRange (cond b (front_acts world (delivered_front (nothing_noted shape) world.front from content mark))
       (replica_acts world to (lone_step own_primary (world.replicas to) from content mark)))) [
-        | true ↦ λ here numbered. front_range world _ are (message_range shape counted world.front from content mark are.sessions (unspent (eqb-true to FRONT here))) numbered
+        | true ↦ λ here numbered. front_range world _ are (message_range shape counted world.front from content mark are.sessions (front_is here)) numbered
         | false ↦ λ elsewhere numbered.
             (let below : to < shape.nodes = receiver_below shape.nodes from to content counted (eqb-false to FRONT elsewhere) way in
-            replica_range world to _ are (node_range world from to content mark below (places to below) (are.replicas to) is))
+            replica_range world to _ are (node_range world from to content mark below (places to below) (are.replicas to) is (replica_is elsewhere)))
       ]
       refl
 
   -- the first message on its way
   first_keeps : (world : ReplicaWorld) (from to : ℕ) (mark : Bool) (contents : List Content) → world.mail from to ≡ contents → IsSoundWorld shape world → IsWorldInRange world →
-      ((content : Content) (rest : List Content) → world.mail from to ≡ content ∷ rest → to ≡ FRONT → is_delivery_spent (nothing_noted shape) world.front from content ≡ false) →
+      ((content : Content) (rest : List Content) → world.mail from to ≡ content ∷ rest → IsUnspentMessage shape world from to content) →
       ((n : ℕ) → All IsNumbered ((after_first shape world from to mark contents).mail FRONT n)) → IsWorldInRange (after_first shape world from to mark contents)
   first_keeps world from to mark [] waits sound are unspent numbered = are
   first_keeps world from to mark (content ∷ rest) waits sound are unspent numbered =
@@ -139,19 +153,28 @@ module _ (shape : Shape) (counted : IsNodeCount shape.nodes) where
       let popped : ReplicaWorld = record world { mail = with_way world.mail from to rest } in
       let popped_are : IsWorldInRange popped = record { sessions = are.sessions; replicas = are.replicas; mail = with_way_range world.mail from to rest are.mail (All-tail IsContent content rest all) } in
       message_keeps popped from to content mark popped_are (All-head IsContent content rest all) (All-head (IsAddressed shape.nodes from to) content rest ways) sound.places.replicas
-      (unspent content rest waits) numbered
+      (front_unspent shape world from to content (unspent content rest waits))
+      (replica_unspent shape world from to content (unspent content rest waits)) numbered
 
-event_keeps : (shape : Shape) (world : ReplicaWorld) (event : QueueEvent) → IsClusterSize shape.nodes shape.spares → IsSoundWorld shape world → IsWorldInRange world → IsUnspentEvent shape world event →
-    ((n : ℕ) → All IsNumbered ((after_replica_event shape world event).mail FRONT n)) → IsWorldInRange (after_replica_event shape world event)
+-- an event, after which each command on its way is numbered
+event_keeps : (shape : Shape) (state : FirmWorld) (event : QueueEvent) → IsClusterSize shape.nodes shape.spares → IsSoundWorld shape state.world →
+    IsWorldInRange state.world → IsUnspentEvent shape state (happens event) →
+    ((n : ℕ) → All IsNumbered ((after_replica_event shape state.world event).mail FRONT n)) →
+    IsWorldInRange (after_replica_event shape state.world event)
 unfolding after_replica_event
-event_keeps shape world (deliver from to mark) size sound are unspent numbered =
-    first_keeps shape size.counted world from to mark (world.mail from to) refl sound are unspent numbered
-event_keeps shape world (take_line number text said) size sound are unspent numbered =
+event_keeps shape state (deliver from to mark) size sound are unspent numbered =
+    first_keeps shape size.counted state.world from to mark (state.world.mail from to) refl sound are unspent numbered
+event_keeps shape state (take_line number text said) size sound are unspent numbered =
+    let world : ReplicaWorld = state.world in
     front_range (record world { lines = world.lines + 1 }) (fed_front (nothing_noted shape) world.front number text said)
     (record { sessions = are.sessions; replicas = are.replicas; mail = are.mail }) (line_range shape size.counted world.front number text said are.sessions unspent) numbered
-event_keeps shape world quieten size sound are unspent numbered = record { sessions = are.sessions; replicas = are.replicas; mail = are.mail }
-event_keeps shape world nothing size sound are unspent numbered = are
+event_keeps shape state quieten size sound are unspent numbered = record { sessions = are.sessions; replicas = are.replicas; mail = are.mail }
+event_keeps shape state nothing size sound are unspent numbered = are
 
-pub events_keep_range : EventsKeepRange
-events_keep_range shape world event size sound are may unspent =
-    event_keeps shape world event size sound are unspent (mail_numbered shape (after_replica_event shape world event) (events_keep_sound shape world event size sound may))
+-- an event of the system that may happen, and is not spent, keeps all in range
+pub events_keep_range : (shape : Shape) (state : FirmWorld) (event : QueueEvent) → IsClusterSize shape.nodes shape.spares → IsSoundWorld shape state.world →
+    IsWorldInRange state.world → MayReplicas state.world event → IsUnspentEvent shape state (happens event) →
+    IsWorldInRange (after_replica_event shape state.world event)
+events_keep_range shape state event size sound are may unspent =
+    event_keeps shape state event size sound are unspent
+    (mail_numbered shape (after_replica_event shape state.world event) (events_keep_sound shape state.world event size sound may))

@@ -4,8 +4,13 @@ pub mod Replicas
 pub mod Fronts
 pub mod Numbers
 pub mod Events
+pub mod FirmRuns
 pub mod Steps
+pub mod Together
 pub mod Firm
 pub mod Given
+pub mod Unspent
+pub mod Mail
 pub mod Counts
+pub mod Tests
 pub mod Runs

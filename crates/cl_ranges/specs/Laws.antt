@@ -1,16 +1,17 @@
 -- What holds of every run of the system: what a step gives is small, and in the ranges of the wire format.
-use Rattle.std.specs.Prelude.{◌≡◌, ℕ, ◌≤◌, Bool, false, List, ◌∷◌, length, All}
+use Rattle.std.specs.Prelude.{◌≡◌, ℕ, ◌≤◌, ◌==◌, Bool, true, false, List, ◌∷◌, length, All}
 use Rattle.cl_front.specs.Front as at_front
 use Rattle.cl_ranges.specs.Ranges.{IsWorldInRange}
 use Rattle.cl_ranges.specs.Spent.{IsUnspentRun}
 use Rattle.cl_ranges.specs.declared.limits.TheConstants.{FIRM_MAX}
-use Rattle.cl_exchange.specs.Laws.{IsSoundWorld}
 use Rattle.cl_roster.specs.Roster.{IsClusterSize}
-use Rattle.cl_runs.specs.Queues.{core_step, watched_after, QueueEvent, deliver, take_line, quieten, nothing}
-use Rattle.cl_runs.specs.World.{Shape, Happening, Run, world_after, IsEnabledWidely, IsWideRun}
+use Rattle.cl_runs.specs.Queues.{core_step, watched_after, deliver, take_line}
+use Rattle.cl_runs.specs.World.{Shape, Happening, Run, EachMayHappen, world_after, IsEnabledWidely, IsWideRun}
 use Rattle.cl_steps.specs.declared.actors.TheConstants.{FRONT}
-use Rattle.cl_system.specs.Replicas.{ReplicaWorld, nothing_noted, after_replica_event, first_replica_world, MayReplicas}
+use Rattle.cl_system.specs.Firm.{FirmWorld, FirmEvent, happens, after_firm_event, first_firm_world, firm_world_after, IsFirmRun}
+use Rattle.cl_system.specs.Replicas.{ReplicaWorld, nothing_noted}
 use Rattle.cl_system.specs.System.{system}
+use Rattle.cl_vnode.specs.Inputs.{is_spent}
 use Rattle.cl_wire.specs.Message.{Content}
 use Rattle.cl_wire.specs.Range.{IsContent, IsInRange}
 
@@ -20,22 +21,28 @@ FewBecomeFirm = (shape : Shape) (run : Run) (happening : Happening) (mark : Bool
     IsEnabledWidely shape (world_after (system shape.nodes) shape run) happening →
     length (core_step (system shape.nodes) (world_after (system shape.nodes) shape run) happening mark).step.firm ≤ FIRM_MAX
 
--- the step of the front, if there is one, needs no transaction number above the limit
-abbrev pub IsUnspentEvent : Shape → ReplicaWorld → QueueEvent → Type 0
-IsUnspentEvent shape world (deliver from to mark) = (content : Content) (rest : List Content) → world.mail from to ≡ content ∷ rest → to ≡ FRONT →
-    at_front.is_delivery_spent (nothing_noted shape) world.front from content ≡ false
-IsUnspentEvent shape world (take_line number text said) = at_front.is_line_spent (nothing_noted shape) world.front number text said ≡ false
-IsUnspentEvent shape world quieten = Unit {0}
-IsUnspentEvent shape world nothing = Unit {0}
+-- a message comes to a step that needs no number above its limit, of the front or of a replica
+abbrev pub IsUnspentMessage : Shape → ReplicaWorld → ℕ → ℕ → Content → Type 0
+IsUnspentMessage shape world from to content = IsUnspentAt (to == FRONT) where
+  IsUnspentAt : Bool → Type 0
+  IsUnspentAt true = at_front.is_delivery_spent (nothing_noted shape) world.front from content ≡ false
+  IsUnspentAt false = is_spent (world.replicas to) content ≡ false
 
--- at the start all is in range
-abbrev pub InRangeAtFirst : Type 0
-InRangeAtFirst = (shape : Shape) → IsWorldInRange (first_replica_world shape)
+-- the step of an event of the firm system, if there is one, needs no number above its limit
+abbrev pub IsUnspentEvent : Shape → FirmWorld → FirmEvent → Type 0
+IsUnspentEvent shape state (happens (deliver from to mark)) =
+    (content : Content) (rest : List Content) → state.world.mail from to ≡ content ∷ rest → IsUnspentMessage shape state.world from to content
+IsUnspentEvent shape state (happens (take_line number text said)) = at_front.is_line_spent (nothing_noted shape) state.world.front number text said ≡ false
+IsUnspentEvent shape state event = Unit {0}
 
--- each event that may happen and is not spent keeps all in range
-abbrev pub EventsKeepRange : Type 0
-EventsKeepRange = (shape : Shape) (world : ReplicaWorld) (event : QueueEvent) → IsClusterSize shape.nodes shape.spares → IsSoundWorld shape world → IsWorldInRange world →
-    MayReplicas world event → IsUnspentEvent shape world event → IsWorldInRange (after_replica_event shape world event)
+-- so does none of these events, each in its turn
+abbrev pub AreUnspent : Shape → List FirmEvent → Type 0
+AreUnspent shape events = EachMayHappen (IsUnspentEvent shape) (after_firm_event shape) events (first_firm_world shape)
+
+-- after each firm run of which no step is spent all is in range
+abbrev pub FirmRunsAreInRange : Type 0
+FirmRunsAreInRange = (shape : Shape) (events : List FirmEvent) → IsClusterSize shape.nodes shape.spares → IsFirmRun shape events → AreUnspent shape events →
+    IsWorldInRange (firm_world_after shape events).world
 
 -- whatever was given to a link in a run of which no step is spent is in range
 abbrev pub GivenIsInRange : Type 0

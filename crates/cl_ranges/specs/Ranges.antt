@@ -1,14 +1,11 @@
 -- What is in the ranges of the wire format between two events: stored values, names of transactions, commands, messages.
-use Rattle.std.specs.Prelude.{ℕ, ◌≤◌, All, Option, Some, None}
+use Rattle.std.specs.Prelude.{ℕ, ◌+◌, ◌^◌, ◌<◌, ◌≤◌, All, Option, Some, None}
 use Rattle.cl_control.specs.State.{Entry}
-use Rattle.cl_fields.specs.Range.{IsCommandNumber, IsTxn, IsImage, IsCommand}
+use Rattle.cl_fields.specs.Range.{IsCommandNumber, IsNumber, IsTxn, IsImage, IsCommand, IsEntry}
 use Rattle.cl_front.specs.declared.current.Current.{Current}
 use Rattle.cl_front.specs.declared.limits.TheConstants.{TXN_NUMBER_MAX}
 use Rattle.cl_front.specs.Session.{SessionState}
-use Rattle.cl_log.specs.declared.records.Form.{Form}
-use Rattle.cl_log.specs.declared.records.Form.TheVariants.{Image, Amount}
-use Rattle.cl_log.specs.declared.records.LogRec.{LogRec}
-use Rattle.cl_log.specs.declared.records.LogRec.TheVariants as records
+use Rattle.cl_log.specs.declared.log.TheConstants.{LOG_NUMBER_MAX}
 use Rattle.cl_lone.specs.Lone.{command_in}
 use Rattle.cl_part.specs.State.{State}
 use Rattle.cl_system.specs.Replicas.{ReplicaWorld}
@@ -16,23 +13,13 @@ use Rattle.cl_types.specs.Places.{Place}
 use Rattle.cl_vnode.specs.Replica.{ReplicaState}
 use Rattle.cl_wire.specs.Range.{IsContent}
 
--- an image to write is in range; of an amount, the sum alone counts
-abbrev pub WritesInRange : Form → Type 0
-WritesInRange (Image image) = IsImage image
-WritesInRange (Amount amount) = Unit {0}
-
--- what a log record locks for, writes and gives back is in range
-abbrev pub IsLoggable : LogRec → Type 0
-IsLoggable (records.Touch txn table key mode) = IsTxn txn
-IsLoggable (records.Set txn table key before old new) = IsTxn txn × IsImage old × IsImage new
-IsLoggable (records.Add txn table key before amount) = IsTxn txn
-IsLoggable (records.Comp txn table key before undone form) = WritesInRange form
-IsLoggable content = Unit {0}
-
 -- what a participant has is in range
 pub record IsPartInRange (part : State) : Type 0 where
   pub stored : (place : Place) → IsImage (part.stored place).1
-  pub log : All (λ entry. IsLoggable entry.content) part.log
+  pub numbers : (place : Place) → (part.stored place).0 < 2 ^ 64
+  pub log : All (λ entry. IsNumber entry.number × IsEntry entry.content) part.log
+  pub first : 1 ≤ part.next
+  pub next : part.next ≤ LOG_NUMBER_MAX + 1
   pub grants : All (λ grant. IsTxn grant.txn) part.grants
 
 -- so is an open transaction
