@@ -4,7 +4,7 @@ use Rattle.std.proofs.lemmas.List.{length-append}
 use Rattle.cl_lines.specs.declared.out.Out.TheVariants as out
 use Rattle.cl_serial.specs.Causes.{Conflicts}
 use Rattle.cl_serial.specs.Exchanges.{Exchange}
-use Rattle.cl_serial.specs.Serial.{StandsAt, IsIn}
+use Rattle.cl_serial.specs.Serial.{StandsAt, IsIn, IsOperation}
 use Rattle.cl_serial.specs.Transactions.{commands_of}
 use Rattle.cl_serial.specs.Transcript.{TranscriptEntry, written, quiet}
 use Rattle.cl_serial.proofs.Places.{StandsAt-append_left}
@@ -91,7 +91,7 @@ abbrev pub IsCause : (TxnId → ℕ → Type 0) → List TranscriptEntry → Txn
 IsCause Short transcript name asked position (Conflict holder) = IsRefusedReply transcript name holder asked position
 IsCause Short transcript name asked position (Node node) = ⊥
 IsCause Short transcript name asked position Client = asked.command ≡ Abort
-IsCause Short transcript name asked position Memory = Short name position
+IsCause Short transcript name asked position Memory = IsOperation asked.command × Short name position
 
 -- a reply of this session has its exchange, and its cause
 pub record IsCaused (Short : TxnId → ℕ → Type 0) (transcript : List TranscriptEntry) (session position : ℕ) (cause : AbortCause) : Type 0 where
@@ -191,7 +191,7 @@ module _ (old new : List TranscriptEntry) (grows : Grows old new) where
   }
   cause_stays Short More short name asked position (Node node) h = h
   cause_stays Short More short name asked position Client h = h
-  cause_stays Short More short name asked position Memory h = short name position h
+  cause_stays Short More short name asked position Memory h = (h.0, short name position h.1)
 
   pub caused_stays : (Short More : TxnId → ℕ → Type 0) → ((name : TxnId) (position : ℕ) → Short name position → More name position) → (session position : ℕ) (cause : AbortCause) →
       IsCaused Short old session position cause → IsCaused More new session position cause

@@ -167,7 +167,7 @@ module _ (shape : Shape) (world : ReplicaWorld) (sound : IsSoundWorld shape worl
     caused_as current (Work table key op) numbered fits named left is Memory same goes says =
         let first = first_left (left_in txn.session transcript) (Work table key op) view.session.waiting left in
         let q : Line = (Work table key op, first.0) in
-        caused_by q is.0 (outstanding_of q first.1 is.0 is.1 first.2 named is.3) (subst (λ c. IsCause Short after txn (answered q (Aborted cause, length transcript)) (length transcript) c) (sym same) (short says))
+        caused_by q is.0 (outstanding_of q first.1 is.0 is.1 first.2 named is.3) (subst (λ c. IsCause Short after txn (answered q (Aborted cause, length transcript)) (length transcript) c) (sym same) (cc, short says))
     caused_as current (Work table key op) numbered fits named left is (Node node) same goes says = absurd goes
     caused_as current (Work table key op) numbered fits named left is Client same goes says = absurd goes
     caused_as current Abort numbered fits named left is Client same goes says =

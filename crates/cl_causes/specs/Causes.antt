@@ -3,7 +3,7 @@ use Rattle.std.specs.Prelude.{◌≡◌, ◌≢◌, ℕ, ◌<◌, true, List, So
 use Rattle.cl_lines.specs.declared.out.Out.TheVariants.{Answer}
 use Rattle.cl_serial.specs.Causes.{AsksConflicting}
 use Rattle.cl_serial.specs.Exchanges.{Exchange}
-use Rattle.cl_serial.specs.Serial.{StandsAt, IsIn, IsAnswered}
+use Rattle.cl_serial.specs.Serial.{StandsAt, IsIn, IsAnswered, IsOperation}
 use Rattle.cl_serial.specs.Transactions.{commands_of, is_end}
 use Rattle.cl_serial.specs.Transcript.{TranscriptEntry, written, quiet}
 use Rattle.cl_types.specs.declared.answers.AbortCause.{AbortCause}
@@ -45,12 +45,12 @@ abbrev pub IsAskOf : TxnId → Content → Type 0
 IsAskOf name (Ask v txn number table key op) = txn ≡ name
 IsAskOf name content = ⊥
 
--- a cause is true of the exchange in which the transaction was aborted, answered at this position: CLIENT of ABORT, CONFLICT of a conflicting operation, MEMORY where memory was short; NODE comes never yet
+-- a cause is true of the exchange in which the transaction was aborted, answered at this position: CLIENT of ABORT, CONFLICT of a conflicting operation, MEMORY of an operation where memory was short; NODE comes never yet
 abbrev pub IsTrueCause : List TranscriptEntry → (TxnId → ℕ → Type 0) → TxnId → Exchange → ℕ → AbortCause → Type 0
 IsTrueCause transcript Short name asked replied (Conflict holder) = IsConflict transcript name holder asked replied
 IsTrueCause transcript Short name asked replied (Node node) = ⊥
 IsTrueCause transcript Short name asked replied Client = asked.command ≡ Abort
-IsTrueCause transcript Short name asked replied Memory = Short name replied
+IsTrueCause transcript Short name asked replied Memory = IsOperation asked.command × Short name replied
 
 -- each reply ABORTED of a transcript answers a command of a transaction, and its cause is true; for whom memory was short before a position is said beside it
 abbrev pub TrueCauses : List TranscriptEntry → (TxnId → ℕ → Type 0) → Type 0

@@ -1,13 +1,15 @@
 -- The guarantee over every run of the cluster, by the firm run that it is.
-use Rattle.std.proofs.Common.{◌≡◌, ℕ, ◌≤◌, List, [], ◌∷◌, ◌++◌, Option, sym, ap, ◌∙◌, subst, subst₂}
+use Rattle.std.proofs.Common.{◌≡◌, ℕ, ◌≤◌, false, List, [], ◌∷◌, ◌++◌, Option, sym, ap, ◌∙◌, subst, subst₂}
 use Rattle.std.specs.Option.{unwrap_or}
 use Rattle.cl_causes.specs.Causes as causes
 use Rattle.cl_causes.specs.Causes.{IsAskOf, IsTrueCause}
 use Rattle.cl_causes.specs.Laws.{FirmRunsNameTrueCauses}
 use Rattle.cl_causes.specs.Short as short
 use Rattle.cl_guarantee.specs.Causes.{WasShort}
-use Rattle.cl_guarantee.specs.Laws.{RunsAreSerializable, EachHasReplica, ReplicasAgree, RunsNameTrueCauses, LinesAreFed, RestAnswersAll, HistoriesGoOn, LogsGoOn}
+use Rattle.cl_guarantee.specs.Laws.{RunsAreSerializable, ReplicasAgree, RunsNameTrueCauses, LinesAreFed, RestAnswersAll, HistoriesGoOn, LogsGoOn}
+use Rattle.cl_guarantee.specs.Laws.{RunsKeepBrokenOut, RunsReplayUnbroken}
 use Rattle.cl_log.specs.LogEntry.{LogEntry}
+use Rattle.cl_log.specs.Open.{is_among}
 use Rattle.cl_members.specs.Laws.{RunsAreFirmRuns, EventsGoOn, RunsAreQuiet, MarksAreOfRuns}
 use Rattle.cl_members.specs.Events.{firm_events_of}
 use Rattle.cl_members.specs.Members.{transcript_after, history_after, IsReplicaAfter}
@@ -16,11 +18,13 @@ use Rattle.cl_roster.specs.Roster.{IsClusterSize}
 use Rattle.cl_runs.specs.World.{Cores, Shape, Run, EachMayHappen, IsEnabledWidely, after_event, first_world, IsWideRun}
 use Rattle.cl_runs.proofs.Runs.{runs_are_wide}
 use Rattle.cl_serial.specs.Exchanges.{Exchange}
-use Rattle.cl_serial.specs.Serial.{Serializable, EveryLineAnswered}
+use Rattle.cl_serial.specs.PlainMap.{RepliesAgree}
+use Rattle.cl_serial.specs.Serial.{Serializable, EveryLineAnswered, values_after}
 use Rattle.cl_serial.specs.Transcript.{TranscriptEntry, fed_lines}
 use Rattle.cl_served.specs.Laws.{FirmRunsAreSerializable}
+use Rattle.cl_served.specs.Served.{done_of}
 use Rattle.cl_settled.specs.Laws as settled
-use Rattle.cl_settled.specs.Settled.{AgreesWithHistory}
+use Rattle.cl_settled.specs.Settled.{HasBroken, AgreesWithHistory}
 use Rattle.cl_shown.specs.Laws.{transcript_of_firm, FirmLinesAreFed, FirmRestAnswersAll}
 use Rattle.cl_system.specs.Firm.{firm_world_after, IsFirmRun}
 use Rattle.cl_system.specs.System.{Core, system}
@@ -46,7 +50,7 @@ cause_by : (transcript : List TranscriptEntry) (Short Other : TxnId → ℕ → 
 cause_by transcript Short Other says name asked replied (Conflict holder) is = is
 cause_by transcript Short Other says name asked replied (Node node) is = is
 cause_by transcript Short Other says name asked replied Client is = is
-cause_by transcript Short Other says name asked replied Memory is = says name replied is
+cause_by transcript Short Other says name asked replied Memory is = (is.0, says name replied is.1)
 
 true_by : (transcript : List TranscriptEntry) (Short Other : TxnId → ℕ → Type 0) → ((name : TxnId) (replied : ℕ) → Short name replied → Other name replied) →
     causes.TrueCauses transcript Short → causes.TrueCauses transcript Other
@@ -73,11 +77,6 @@ module _ (firm : RunsAreFirmRuns) where
       subst EveryLineAnswered (sym is.transcript) (law shape (firm_events_of shape run) size is.firm (is.rests rests))
 
   -- ---- replicas
-
-  pub each_has_replica : EachHasReplica
-  each_has_replica shape run size wide v below =
-      let part = (firm shape run size wide).parts v below in
-      (part.replica, part.after)
 
   -- the replica of a virtual node is the one that has its part
   part_is : (shape : Shape) (run : Run) (size : IsClusterSize shape.nodes shape.spares) (wide : IsWideRun (system shape.nodes) shape run) (v : ℕ) (replica : ReplicaState) →
@@ -118,6 +117,29 @@ module _ (firm : RunsAreFirmRuns) where
               ∙ ap (λ events. settled.log_after shape events v) (goes_on shape run more).1 ∙ rest.1
               ∙ ap (λ (log : List LogEntry). log ++ rest.0) (sym (ap (λ (part : State). part.log) (part_is shape run size (wide_before (system shape.nodes) shape run more wide) v before was))),
         )
+
+  -- ---- transactions outside the history
+
+  pub runs_replay_unbroken : settled.UnbrokenReplay → RunsReplayUnbroken
+  runs_replay_unbroken law shape run size wide txn is =
+      let one = firm shape run size wide in
+      let outside : is_among txn (settled.firm_after shape (firm_events_of shape run)) ≡ false = subst (λ history. is_among txn history ≡ false) one.history is.outside in
+      subst₂ (λ transcript history. RepliesAgree (values_after transcript history) (done_of transcript txn)) (sym one.transcript) (sym one.history)
+      (law shape (firm_events_of shape run) size one.firm txn is.session outside
+      (λ v below broken.
+      let part = one.parts v below in
+      is.unbroken v part.replica part.after (subst (λ (part : State). HasBroken part.log txn) (sym part.same) broken)))
+
+  pub runs_keep_broken_out : EventsGoOn → settled.BrokenStayOut → RunsKeepBrokenOut
+  runs_keep_broken_out goes_on law shape run more size wide txn is =
+      let before = wide_before (system shape.nodes) shape run more wide in
+      let one = firm shape run size before in
+      let rest = goes_on shape run more in
+      let outside : is_among txn (settled.firm_after shape (firm_events_of shape run)) ≡ false = subst (λ history. is_among txn history ≡ false) one.history is.outside in
+      subst (λ history. is_among txn history ≡ false)
+      (sym ((firm shape (run ++ more) size wide).history ∙ ap (settled.firm_after shape) rest.1))
+      (law shape (firm_events_of shape run) rest.0 txn is.v size (subst (IsFirmRun shape) rest.1 (firm shape (run ++ more) size wide).firm) is.after.below is.session outside
+      (subst (λ (part : State). HasBroken part.log txn) (part_is shape run size before is.v is.primary is.after) is.broken))
 
   -- ---- causes
 

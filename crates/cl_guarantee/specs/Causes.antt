@@ -8,7 +8,7 @@ use Rattle.cl_system.specs.System.{system}
 use Rattle.cl_types.specs.declared.operations.TxnId.{TxnId}
 use Rattle.cl_wire.specs.Message.{Message}
 
--- before this position of the transcript a participant that was asked for the transaction found no memory
+-- before this position of the transcript an event with its mark set handled a packet that asks for the transaction; the mark is free
 pub record WasShort (shape : Shape) (run : Run) (name : TxnId) (replied : ℕ) : Type 0 where
   pub front : Run
   pub back : Run

@@ -1,11 +1,13 @@
 -- The guarantee over every run of the cluster.
-use Rattle.std.specs.Prelude.{◌≡◌, ℕ, ◌<◌, true, List, ◌++◌}
+use Rattle.std.specs.Prelude.{◌≡◌, ℕ, true, List, ◌++◌}
 use Rattle.cl_guarantee.specs.Causes.{TrueCauses}
+use Rattle.cl_guarantee.specs.Held.{AreHeldAfter, HaveMembers, LogsAreShared, MembersAreEqual}
+use Rattle.cl_guarantee.specs.Whole.{BrokenStaysOut, UnbrokenReplays}
 use Rattle.cl_log.specs.LogEntry.{LogEntry}
 use Rattle.cl_members.specs.Laws.{OfWideRuns}
 use Rattle.cl_members.specs.Members.{transcript_after, history_after, IsReplicaAfter, feeds_in}
 use Rattle.cl_roster.specs.Roster.{IsClusterSize}
-use Rattle.cl_runs.specs.World.{Shape, Run, world_after, IsRun, IsWideRun}
+use Rattle.cl_runs.specs.World.{Shape, Run, world_after, IsQuiet, IsRun, IsWideRun}
 use Rattle.cl_serial.specs.Serial.{Serializable, EveryLineAnswered}
 use Rattle.cl_serial.specs.Transcript.{fed_lines}
 use Rattle.cl_settled.specs.Settled.{AgreesWithHistory}
@@ -18,11 +20,24 @@ use Rattle.cl_vnode.specs.Replica.{ReplicaState}
 abbrev pub RunsAreSerializable : Type 0
 RunsAreSerializable = OfWideRuns (λ shape run. Serializable (transcript_after shape run) (history_after shape run))
 
--- each virtual node has a replica
-abbrev pub EachHasReplica : Type 0
-EachHasReplica = OfWideRuns (λ shape run. (v : ℕ) → v < shape.nodes → (replica : ReplicaState) × IsReplicaAfter shape run v replica)
+-- each virtual node has a primary and a standby
+abbrev pub EachHasMembers : Type 0
+EachHasMembers = OfWideRuns HaveMembers
 
--- and what each has is what the history says
+-- each firm transaction is held by every member
+abbrev pub MembersHold : Type 0
+MembersHold = OfWideRuns AreHeldAfter
+
+-- the log of each standby is a first part of its primary's
+abbrev pub StandbysFollow : Type 0
+StandbysFollow = OfWideRuns LogsAreShared
+
+-- at each quiet moment, whether it is noted or not, both members of each virtual node are equal
+abbrev pub QuietMembersAreEqual : Type 0
+QuietMembersAreEqual = (shape : Shape) (run : Run) → IsClusterSize shape.nodes shape.spares → IsRun (system shape.nodes) shape run →
+    IsQuiet (system shape.nodes) shape (world_after (system shape.nodes) shape run) → MembersAreEqual shape run
+
+-- what each primary has is what the history says
 abbrev pub ReplicasAgree : Type 0
 ReplicasAgree = OfWideRuns (λ shape run. (v : ℕ) (replica : ReplicaState) → IsReplicaAfter shape run v replica →
     AgreesWithHistory (transcript_after shape run) (history_after shape run) shape.nodes v replica.part)
@@ -49,3 +64,11 @@ HistoriesGoOn = (shape : Shape) (run more : Run) → IsClusterSize shape.nodes s
 abbrev pub LogsGoOn : Type 0
 LogsGoOn = (shape : Shape) (run more : Run) (v : ℕ) (before after : ReplicaState) → IsClusterSize shape.nodes shape.spares → IsWideRun (system shape.nodes) shape (run ++ more) →
     IsReplicaAfter shape run v before → IsReplicaAfter shape (run ++ more) v after → (rest : List LogEntry) × (after.part.log ≡ before.part.log ++ rest)
+
+-- a transaction outside the history that nothing breaks is whole
+abbrev pub RunsReplayUnbroken : Type 0
+RunsReplayUnbroken = OfWideRuns UnbrokenReplays
+
+-- and one that something breaks never becomes a member
+abbrev pub RunsKeepBrokenOut : Type 0
+RunsKeepBrokenOut = (shape : Shape) (run more : Run) → IsClusterSize shape.nodes shape.spares → IsWideRun (system shape.nodes) shape (run ++ more) → BrokenStaysOut shape run more

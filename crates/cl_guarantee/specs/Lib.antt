@@ -1,2 +1,4 @@
 pub mod Causes
+pub mod Held
+pub mod Whole
 pub mod Laws

@@ -1,9 +1,6 @@
-pub mod Told
-pub mod Histories
-pub mod Blocks
 pub mod Longer
 pub mod Cores
 pub mod Feeds
 pub mod Runs
-pub mod Quiet
 pub mod Marks
+pub mod Quiet

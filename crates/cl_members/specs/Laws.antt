@@ -1,10 +1,12 @@
 -- Every run of the cluster is a run of the firm system.
 use Rattle.std.specs.Prelude.{◌≡◌, ℕ, ◌<◌, true, List, [], ◌∷◌, ◌++◌, Some, length}
 use Rattle.std.specs.List.{flat_map}
+use Rattle.cl_cluster.specs.Alike.{pair_events_of, pairs_after}
 use Rattle.cl_front.specs.Front.{is_answered}
+use Rattle.cl_pairs.specs.Pairs.{IsPairRun}
 use Rattle.cl_roster.specs.Roster.{IsClusterSize}
 use Rattle.cl_runs.specs.Queues.{deliver}
-use Rattle.cl_runs.specs.World.{Shape, Run, handle, packet_at, world_after, IsRun, IsWideRun}
+use Rattle.cl_runs.specs.World.{Shape, Run, handle, packet_at, world_after, IsQuiet, IsRun, IsWideRun}
 use Rattle.cl_shown.specs.Laws.{transcript_of_firm, lines_of_firm}
 use Rattle.cl_steps.specs.declared.actors.TheConstants.{FRONT}
 use Rattle.cl_system.specs.Firm.{FirmEvent, happens, firm_world_after, IsFirmRun, AreQuiet}
@@ -12,7 +14,7 @@ use Rattle.cl_system.specs.System.{is_core_at_rest, system}
 use Rattle.cl_vnode.specs.Replica.{ReplicaState}
 use Rattle.cl_wire.specs.Message.{Content, Message}
 use Rattle.cl_members.specs.Events.{firm_events_of}
-use Rattle.cl_members.specs.Members.{transcript_after, history_after, IsReplicaAfter, feeds_in}
+use Rattle.cl_members.specs.Members.{transcript_after, history_after, IsReplicaAfter, IsStandbyAfter, feeds_in}
 
 -- the statement holds of every wide run of a cluster of a lawful size
 abbrev pub OfWideRuns : (Shape → Run → Type 0) → Type 0
@@ -37,6 +39,22 @@ pub record IsFirmRunOf (shape : Shape) (run : Run) : Type 0 where
 -- so is every wide run
 abbrev pub RunsAreFirmRuns : Type 0
 RunsAreFirmRuns = OfWideRuns IsFirmRunOf
+
+-- members of the cluster are those of pairs, with the same history
+pub record IsOfPairs (shape : Shape) (run : Run) : Type 0 where
+  pub is : IsPairRun shape (pair_events_of shape run)
+  pub primaries : (v : ℕ) → v < shape.nodes → IsReplicaAfter shape run v ((pairs_after shape run).primaries v)
+  pub standbys : (v : ℕ) → v < shape.nodes → IsStandbyAfter shape run v ((pairs_after shape run).standbys v)
+  pub history : history_after shape run ≡ (pairs_after shape run).history
+
+-- so it is after every wide run
+abbrev pub MembersAreOfPairs : Type 0
+MembersAreOfPairs = OfWideRuns IsOfPairs
+
+-- at a quiet moment of a run nothing is on its way
+abbrev pub QuietEmptiesMail : Type 0
+QuietEmptiesMail = (shape : Shape) (run : Run) → IsClusterSize shape.nodes shape.spares → IsRun (system shape.nodes) shape run →
+    IsQuiet (system shape.nodes) shape (world_after (system shape.nodes) shape run) → (from to : ℕ) → (pairs_after shape run).mail from to ≡ []
 
 -- the events of a longer run begin with those of the run
 abbrev pub EventsGoOn : Type 0

@@ -1,6 +1,7 @@
 -- What the actors of a run have, and what the run was fed.
 use Rattle.std.specs.Prelude.{◌≡◌, ℕ, ◌<◌, List, [], ◌∷◌, Option, Some, None}
 use Rattle.std.specs.List.{flat_map}
+use Rattle.cl_node.specs.Members.{standby_node}
 use Rattle.cl_node.specs.Node.{replica_at}
 use Rattle.cl_runs.specs.World.{Shape, Happening, feed, Run, world_after}
 use Rattle.cl_serial.specs.Transcript.{TranscriptEntry}
@@ -26,6 +27,11 @@ replica_in (node state) v = replica_at state v
 pub record IsReplicaAfter (shape : Shape) (run : Run) (v : ℕ) (replica : ReplicaState) : Type 0 where
   pub below : v < shape.nodes
   pub has : replica_in ((world_after (system shape.nodes) shape run).actors v).core v ≡ Some replica
+
+-- and its standby, which is the node behind it, this one
+pub record IsStandbyAfter (shape : Shape) (run : Run) (v : ℕ) (replica : ReplicaState) : Type 0 where
+  pub below : v < shape.nodes
+  pub has : replica_in ((world_after (system shape.nodes) shape run).actors (standby_node shape.nodes v)).core v ≡ Some replica
 
 -- the line that an event feeds, with its number
 abbrev pub feeds_of : Happening → List (ℕ × List ℕ)

@@ -4,4 +4,4 @@
 
 mod laws;
 
-pub use laws::{events_are_of_runs, runs_are_firm_runs};
+pub use laws::{events_are_of_runs, members_are_of_pairs, runs_are_firm_runs};

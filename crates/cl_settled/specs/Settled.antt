@@ -1,6 +1,5 @@
 -- What the replica of a virtual node has to do with the history.
 use Rattle.std.specs.Prelude.{◌≡◌, ℕ, Bool, true, false, List, All}
-use Rattle.cl_ledger.specs.Ledgers.{place_on}
 use Rattle.cl_locks.specs.Grants.{mode_held}
 use Rattle.cl_log.specs.declared.records.LogRec.{LogRec}
 use Rattle.cl_log.specs.declared.records.LogRec.TheVariants.{Comp, End}
@@ -16,6 +15,7 @@ use Rattle.cl_serial.specs.Serial.{IsIn, values_after}
 use Rattle.cl_serial.specs.Transactions.{commands_of}
 use Rattle.cl_serial.specs.Transcript.{TranscriptEntry}
 use Rattle.cl_types.specs.declared.operations.TxnId.{TxnId}
+use Rattle.cl_types.specs.Placement.{virtual_node_of}
 use Rattle.cl_types.specs.Places.{Place}
 use Rattle.cl_types.specs.Transactions.{same_txn}
 
@@ -38,7 +38,7 @@ HasBroken log txn = (entry : LogEntry) × IsIn log entry × (breaks txn entry.co
 -- the participant of a virtual node has what the history says
 pub record AgreesWithHistory (transcript : List TranscriptEntry) (history : List TxnId) (nodes v : ℕ) (part : State) : Type 0 where
   -- each place of it settles to the map after the history
-  pub settles : (place : Place) → place_on nodes place ≡ v → settled part.log history place ≡ values_after transcript history place
+  pub settles : (place : Place) → virtual_node_of place.1 nodes ≡ v → settled part.log history place ≡ values_after transcript history place
   -- its store and its locks are those of its log
   pub store : IsStoreOf part.stored part.log
   pub locks : AreLocksOf (mode_held part.grants) part.log
@@ -46,7 +46,8 @@ pub record AgreesWithHistory (transcript : List TranscriptEntry) (history : List
   pub apart : HasNoConflict part.log
   -- a member holds the lock of each of its operations until its End
   pub holds : (txn : TxnId) → is_among txn history ≡ true →
-      All (λ operation. place_on nodes operation.place ≡ v → has_ended part.log txn ≡ false → is_held (locks_of_log part.log txn operation.place) (mode_of operation.op) ≡ true)
+      All (λ operation. virtual_node_of operation.place.1 nodes ≡ v → has_ended part.log txn ≡ false →
+      is_held (locks_of_log part.log txn operation.place) (mode_of operation.op) ≡ true)
       (operations (commands_of transcript txn))
   -- nothing of a member is undone, and none of it ends without commit
   pub one_outcome : (txn : TxnId) (entry : LogEntry) → is_among txn history ≡ true → IsIn part.log entry → aborts txn entry.content ≡ false
