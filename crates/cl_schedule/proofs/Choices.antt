@@ -3,8 +3,8 @@ use Rattle.std.proofs.Common.{◌≡◌, ℕ, zero, suc, ◌+◌, ◌-◌, ◌<�
 use Rattle.std.specs.List.{All}
 use Rattle.std.proofs.lemmas.Bool.{eqb-true, le-leb, leb-true, ltb-true, or_cases}
 use Rattle.std.proofs.lemmas.List.Elements.{All-append, All-cons, All-filter, All-head, All-map, All-nil, All-tail, All-weaker}
+use Rattle.cl_cluster.proofs.EveryRun.{runs_are_pair_runs}
 use Rattle.cl_endpoint.specs.Endpoint.{is_waiting, set_number}
-use Rattle.cl_exchange.proofs.Runs.{runs_are_replica_runs}
 use Rattle.cl_link.proofs.Indices.{All-slice_get}
 use Rattle.cl_ranked.specs.Slots.{kept_from}
 use Rattle.cl_roster.specs.Roster.{IsClusterSize}
@@ -31,9 +31,9 @@ noted_none : (shape : Shape) (run : Run) → IsClusterSize shape.nodes shape.spa
     set_number ((moment_after shape run).actors actor).endpoint ≡ 0
 noted_none shape run size is_run actor =
     let wide = runs_are_wide (system shape.nodes) shape run is_run in
-    let replica = runs_are_replica_runs shape run size wide in
+    let pairs = runs_are_pair_runs shape run size wide in
     let same = watching_leaves_world (system shape.nodes) shape run in
-    ap (λ (moment : Moment). set_number (moment.actors actor).endpoint) (sym same) ∙ ap (λ noted. length noted) (replica.alike.noted actor)
+    ap (λ (moment : Moment). set_number (moment.actors actor).endpoint) (sym same) ∙ ap (λ noted. length noted) (pairs.alike.noted actor)
 
 -- so no packet was sent with anything noted
 sent_noting_none : (shape : Shape) (run : Run) → IsClusterSize shape.nodes shape.spares → IsRun (system shape.nodes) shape run →

@@ -43,7 +43,7 @@ fn counts(rt: &impl Abort, alloc: Global, nodes: u32) -> Result<(), Refused>
         let Row(step, live, on_way) = row;
         goes(rt, alloc, &mut world, step)?;
         assert!(rt;
-            world.audit() == (live, 0, nodes) && world.on_way() == on_way,
+            world.audit() == (live, nodes, nodes) && world.on_way() == on_way,
             "{step:?}"
         );
     }

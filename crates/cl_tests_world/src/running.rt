@@ -6,6 +6,7 @@ use cl_lines::print_out;
 use cl_post::Event;
 use cl_serial::Said;
 use cl_types::{GrowingList, NoMemory, Refused};
+use cl_wire::{Body, Packet};
 use cl_world::World;
 use std::alloc::Global;
 use std::process::Abort;
@@ -33,6 +34,8 @@ pub(crate) enum Step {
     AllCome,
     // Each of them is handled twice. The second time nothing is printed.
     AllComeTwice,
+    // All come but those that say what a standby took of the log of this virtual node: they stay on their way.
+    AllComeButAcks(u32),
 }
 
 fn event_of(alloc: Global, world: &World, what: What) -> Result<Event, NoMemory> {
@@ -125,6 +128,38 @@ fn all_come_twice(rt: &impl Abort, world: &mut World) -> Result<(), Refused>
     Ok(())
 }
 
+// Whether the packet says what a standby took of the log of this virtual node.
+fn acknowledges(packet: &Packet, v: u32) -> bool {
+    match &packet.body {
+        Body::LogAck(of, _) => *of == v,
+        _ => false,
+    }
+}
+
+// The number of the next packet on its way that does not, and the actor that it goes to.
+fn next_but_acks(world: &World, v: u32) -> Option<(u64, u32)> {
+    for place in 0..100 {
+        let (id, actor) = world.way(place)?;
+        if !acknowledges(world.packet(id)?, v) {
+            return Some((id, actor));
+        }
+    }
+    None
+}
+
+fn all_come_but_acks(rt: &impl Abort, world: &mut World, v: u32) -> Result<(), Refused>
+    requires { IsReady world.old }
+    ensures { OnOk result (IsReady world.new) }
+{
+    for _ in 0..100 {
+        let Some((id, actor)) = next_but_acks(world, v) else {
+            return Ok(());
+        };
+        handles(rt, world, actor, id)?;
+    }
+    Ok(())
+}
+
 // The next packet on its way is that of this number, and goes to this actor.
 fn is_next(rt: &impl Abort, world: &World, actor: u32, id: u64) {
     assert!(rt; world.way(0) == Some((id, actor)));
@@ -156,6 +191,7 @@ pub(crate) fn goes(
         }
         Step::AllCome => all_come(rt, world),
         Step::AllComeTwice => all_come_twice(rt, world),
+        Step::AllComeButAcks(v) => all_come_but_acks(rt, world, v),
     }
 }
 

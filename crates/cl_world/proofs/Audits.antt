@@ -1,33 +1,33 @@
 -- The live records of each virtual node, counted one after another.
-use Rattle.std.proofs.Common.{◌≡◌, ℕ, ◌+◌, ◌<◌, ◌≢◌, if◌then◌else◌, List, [], ◌∷◌, ◌++◌, length, get_or, set, Option, Some, None, IsSome, inl, inr, refl, sym, ap, subst, ◌∙◌, arith}
+use Rattle.std.proofs.Common.{◌≡◌, ℕ, ◌+◌, ◌<◌, List, [], ◌∷◌, ◌++◌, length, get_or, Option, Some, None, IsSome, inl, inr, refl, sym, ap, subst, ◌∙◌, arith}
 use Rattle.std.specs.Prelude.{is_some, sum}
-use Rattle.std.proofs.lemmas.Bool.{cases_eq, lt-ltb}
-use Rattle.std.proofs.lemmas.List.{get_or-set_same, get_or_append_left, length-append, length-replicate}
+use Rattle.std.proofs.lemmas.Bool.{cases_eq}
+use Rattle.std.proofs.lemmas.List.{get_or_append_left, length-append}
 use Rattle.std.proofs.lemmas.List.Sums.{sum_by-append}
 use Rattle.std.proofs.Math.Seq.{get_or-append_seam}
 use Rattle.cl_actor.specs.Acting.{ActingState}
-use Rattle.cl_exchange.proofs.Runs.{runs_are_replica_runs}
+use Rattle.cl_cluster.proofs.EveryRun.{runs_are_pair_runs}
+use Rattle.cl_cluster.proofs.Nodes.{primary_here, standby_here}
+use Rattle.cl_cluster.specs.Alike.{AreAlike, pairs_after}
 use Rattle.cl_node.specs.declared.machine.Node.{Node}
 use Rattle.cl_node.specs.Machine.{NodeMachineState, IsNodeMachine, AreStored}
-use Rattle.cl_node.specs.Node.{NodeState, no_replicas, replica_at}
+use Rattle.cl_node.specs.Members.{standby_node}
+use Rattle.cl_node.specs.Node.{NodeState, replica_at}
 use Rattle.cl_roster.specs.Roster.{IsClusterSize}
 use Rattle.cl_runs.proofs.Runs.{runs_are_wide, watching_leaves_world}
+use Rattle.cl_runs.specs.Queues.{QueueWorld, queue_world_of, watched_after}
 use Rattle.cl_runs.specs.World.{Shape, Run, IsRun}
-use Rattle.cl_steps.specs.declared.actors.TheConstants.{FRONT}
 use Rattle.cl_store.proofs.Counted.{live_records_are_counted}
 use Rattle.cl_store.proofs.InOrder.{IsInScanOrder-records}
 use Rattle.cl_store.specs.declared.store.Store.{Store}
 use Rattle.cl_store.specs.Items.{live}
 use Rattle.cl_store.specs.Store.{records}
-use Rattle.cl_system.specs.Laws.{core_of_node}
 use Rattle.cl_system.specs.System.{Core, node, system}
-use Rattle.cl_types.proofs.PlacementLaws.{node_count-bounds}
 use Rattle.cl_types.specs.Places.{Stored}
 use Rattle.cl_vnode.specs.Replica.{ReplicaState}
 use Rattle.cl_world.specs.Actors.{IsNodeIn, HasNodeState}
-use Rattle.cl_world.specs.Audit.{IsLiveAt, replica_of}
+use Rattle.cl_world.specs.Audit.{IsAudited, IsLiveAt, replica_of}
 use Rattle.cl_world.specs.World.{Moment, moment_after}
-use Rattle.cl_world.proofs.Moves.{below_front}
 use Rattle.cl_world.proofs.Seats.{node_of}
 
 -- ---- one virtual node
@@ -58,25 +58,34 @@ node_live slot machine store actor v count is here stores counted =
     subst (λ (a : ActingState Core). IsLiveAt a.core v count) (sym h.same)
     (stored_live store h.state.core v count (replica_at h.state.core v) refl (stores h.state h.here) counted)
 
--- ---- each has a primary
+-- ---- each has a primary and a standby
 
-primary_there : (nodes v : ℕ) (replica : ReplicaState) → v < nodes → v < 8 → IsSome (replica_of (core_of_node nodes v replica) v)
-primary_there nodes v replica within few =
-    let own : get_or (set no_replicas v (Some replica)) v None ≡ Some replica
-    = get_or-set_same no_replicas v (Some replica) None (omega (arith, few, length-replicate {A = Option ReplicaState} 8 None)) in
-    subst (λ b. IsSome (get_or (if b then set no_replicas v (Some replica) else no_replicas) v None))
-    (sym (lt-ltb v nodes within)) (subst (λ s. IsSome s) (sym own) refl)
+module _ (shape : Shape) (run : Run) (size : IsClusterSize shape.nodes shape.spares) (is : IsRun (system shape.nodes) shape run) where
+  -- cores and queues after the run
+  abbrev queues_after : QueueWorld Core
+  queues_after = queue_world_of (watched_after (system shape.nodes) shape run)
 
--- after each run
-pub has_primary : (shape : Shape) (run : Run) (v : ℕ) → IsClusterSize shape.nodes shape.spares → IsRun (system shape.nodes) shape run →
-    v < shape.nodes → IsSome (replica_of ((moment_after shape run).actors v).core v)
-has_primary shape run v size is within =
-    let replicas = runs_are_replica_runs shape run size (runs_are_wide (system shape.nodes) shape run is) in
-    let few : v < 8 = (let bounds = node_count-bounds shape.nodes size.counted in omega (arith, bounds.1)) in
-    let apart : v ≢ FRONT = λ e. absurd (omega (arith, below_front shape v size (omega arith), e)) in
-    let same : ((moment_after shape run).actors v).core ≡ _
-    = ap (λ (moment : Moment). (moment.actors v).core) (sym (watching_leaves_world (system shape.nodes) shape run)) ∙ replicas.alike.nodes v apart in
-    subst (λ core. IsSome (replica_of core v)) (sym same) (primary_there shape.nodes v _ within few)
+  -- they are the front, and a primary and a standby of each virtual node
+  are_alike : AreAlike shape queues_after (pairs_after shape run)
+  are_alike = (runs_are_pair_runs shape run size (runs_are_wide (system shape.nodes) shape run is)).alike
+
+  -- what a core has of a virtual node, the actor has
+  some_after : (me v : ℕ) (replica : ReplicaState) → replica_of (queues_after.cores me) v ≡ Some replica →
+      IsSome (replica_of ((moment_after shape run).actors me).core v)
+  some_after me v replica has =
+      subst (λ (moment : Moment). IsSome (replica_of (moment.actors me).core v)) (watching_leaves_world (system shape.nodes) shape run)
+      (subst (λ slot. IsSome slot) (sym has) refl)
+
+  -- so the node of its number has the primary of a virtual node
+  pub has_primary : (v : ℕ) → v < shape.nodes → IsSome (replica_of ((moment_after shape run).actors v).core v)
+  has_primary v within =
+      some_after v v _ (primary_here shape size.counted queues_after (pairs_after shape run) are_alike replica_of (λ state n. refl) v within)
+
+  -- and the node behind has its standby
+  pub has_standby : (v : ℕ) → v < shape.nodes → IsSome (replica_of ((moment_after shape run).actors (standby_node shape.nodes v)).core v)
+  has_standby v within =
+      some_after (standby_node shape.nodes v) v _
+      (standby_here shape size.counted queues_after (pairs_after shape run) are_alike replica_of (λ state n. refl) v within)
 
 -- ---- one after another
 
@@ -104,3 +113,16 @@ counted_more moment v total own so_far is =
       ];
       total_is = omega (arith, so_far.total_is, sum_by-append (λ (x : ℕ). x) so_far.counts (own ∷ []));
     }
+
+-- all are counted: with the replica that the node behind has, that is an audit
+pub audited : (shape : Shape) (run : Run) (v total nodes : ℕ) → IsClusterSize shape.nodes shape.spares → IsRun (system shape.nodes) shape run →
+    AreCounted (moment_after shape run) v total → v ≡ shape.nodes → nodes ≡ shape.nodes → IsAudited shape (moment_after shape run) (total, nodes, nodes)
+audited shape run v total nodes size is all last same = record {
+  counts = all.counts;
+  counted = all.counted ∙ last;
+  each = λ u within. all.each u (omega (arith, within, last));
+  live = all.total_is;
+  paired = has_standby shape run size is;
+  standbys = same;
+  nodes = same;
+}

@@ -6,7 +6,7 @@ use Rattle.std.proofs.Math.ListN.{drop_of_length-le}
 use Rattle.std.proofs.lemmas.Bool.{eq-eqb, lt-ltb}
 use Rattle.std.proofs.lemmas.List.{append-nil, map-append}
 use Rattle.std.proofs.lemmas.List.Elements.{All-cons, All-tail}
-use Rattle.cl_exchange.specs.Laws.{EveryInputFits}
+use Rattle.cl_cluster.specs.Laws.{EveryInputFits}
 use Rattle.cl_post.specs.declared.event.Event.{Event}
 use Rattle.cl_post.specs.declared.event.Event.TheVariants as events
 use Rattle.cl_ranges.specs.Spent.{is_spent, IsUnspentRun}

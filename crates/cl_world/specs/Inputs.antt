@@ -1,7 +1,7 @@
 -- What an event gives an actor of the system, and what the actor makes of it.
 use Rattle.std.specs.Prelude.{ℕ, Bool}
 use Rattle.cl_actor.specs.Acting.{ActingState, ActingFits, acted, is_acting_spent}
-use Rattle.cl_exchange.specs.Laws.{CoreDeliveryFits, CoreLineFits}
+use Rattle.cl_cluster.specs.Fitting.{CoreDeliveryFits, CoreLineFits}
 use Rattle.cl_post.specs.Steps.{Input, handle, tick, feed, OutsData}
 use Rattle.cl_ranges.specs.Spent.{is_core_delivery_spent, is_core_line_spent}
 use Rattle.cl_system.specs.System.{Core, delivered_core, fed_core}

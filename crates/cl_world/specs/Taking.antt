@@ -1,6 +1,6 @@
 -- What one event more makes of a world.
 use Rattle.std.specs.Prelude.{◌≡◌, ◌⊎◌, ℕ, Bool, true, false, List, [], ◌∷◌, ◌++◌, map, Option, Some, None, Result, Ok, Err}
-use Rattle.cl_exchange.specs.Laws.{HappeningFits}
+use Rattle.cl_cluster.specs.Fitting.{HappeningFits}
 use Rattle.cl_post.specs.declared.event.Event.{Event}
 use Rattle.cl_post.specs.declared.event.Event.TheVariants as events
 use Rattle.cl_post.specs.Steps.{Input}

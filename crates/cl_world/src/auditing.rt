@@ -30,7 +30,7 @@ impl Actors {
 impl World {
     /// How many records have a value over all primaries, how many virtual nodes have a standby, and how many there are.
     ///
-    /// It asks each virtual node once, whatever it stores; no contract says so. None has a standby so far.
+    /// It asks each virtual node once, whatever it stores; no contract says so. Each has a standby, since no node stops.
     pub fn audit(&self) -> (u64, u32, u32)
         ensures { (shape : Shape) (run : Run) → IsWorldOf shape self.now run → IsWhole shape self.now → IsAudited shape (moment_after shape run) result }
     {
@@ -39,6 +39,6 @@ impl World {
         for v in 0..nodes {
             live += self.actors.live_at(v);
         }
-        (live, 0, nodes)
+        (live, nodes, nodes)
     }
 }

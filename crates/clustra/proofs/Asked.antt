@@ -2,7 +2,7 @@
 use Rattle.std.proofs.Common.{◌≡◌, ◌⊎◌, ◌↔◌, ℕ, ◌<◌, ◌≤◌, leb, Bool, true, false, cond, List, [], ◌∷◌, length, map, drop, get_or, Option, Some, None, IsSome, codes, inl, inr, refl, sym, ap, subst, ◌∙◌, arith}
 use Rattle.std.specs.Fmt.{decimal}
 use Rattle.std.specs.Str.{bytes_eq}
-use Rattle.std.proofs.lemmas.Bool.{and_from, and_parts, le-leb, leb-true}
+use Rattle.std.proofs.lemmas.Bool.{and_from, and_parts, cases_eq, le-leb, leb-true}
 use Rattle.std.proofs.lemmas.Fmt.{decimal_injective}
 use Rattle.std.proofs.lemmas.Slice.Eq.{bytes_eq-Decides}
 use Rattle.cl_schedule.specs.declared.setting.Setting.{Setting}
@@ -11,8 +11,8 @@ use Rattle.cl_types.specs.Decimal.{natural_64}
 use Rattle.cl_types.specs.Names.{is_between}
 use Rattle.cl_types.proofs.DecimalLaws.{natural_64-decimal, natural_64-text}
 use Rattle.clustra.specs.Counting.{turns_in}
-use Rattle.clustra.specs.Run.{IsEndStatus}
-use Rattle.clustra.specs.Words.{AreReplay, AreServe, ReadsWords, setting_with, step_words}
+use Rattle.clustra.specs.Run.{IsEndStatus, IsStatus}
+use Rattle.clustra.specs.Words.{AreAsked, AreReplay, AreServe, ReadsWords, setting_with, step_words}
 use Rattle.clustra.specs.declared.limits.TheConstants.{TURNS_MAX}
 use Rattle.clustra.specs.declared.ended.TheConstants.{NO_MEMORY, USAGE}
 
@@ -170,21 +170,30 @@ pub asked_if : {A : Type 0} (kept : Option A) (Ask : Setting → Type 0) (o : Op
 asked_if None Ask o reads some = tt
 asked_if (Some k) Ask o reads some = asked_for Ask o reads some
 
-pub ran_some : {A : Type 0} (kept : Option A) (Ask : Setting → Type 0) (Ran : Setting → A → Type 0) → IfSome kept (λ k. (setting : Setting) × Ask setting) →
-    ((setting : Setting) → Ask setting → IfSome kept (Ran setting)) →
-    IfSome kept (λ k. (setting : Setting) × Ran setting k)
-ran_some None Ask Ran asked ran = tt
-ran_some (Some k) Ask Ran asked ran = (asked.0, ran asked.0 asked.1)
+pub ran_some : {A : Type 0} (kept : Option A) (Ask Asked : Setting → Type 0) (Ran : Setting → A → Type 0) → ((setting : Setting) → Ask setting → Asked setting) →
+    IfSome kept (λ k. (setting : Setting) × Ask setting) → ((setting : Setting) → Ask setting → IfSome kept (Ran setting)) →
+    IfSome kept (λ k. (setting : Setting) × Asked setting × Ran setting k)
+ran_some None Ask Asked Ran by asked ran = tt
+ran_some (Some k) Ask Asked Ran by asked ran = (asked.0, by asked.0 asked.1, ran asked.0 asked.1)
 
 -- what the program did, by what is kept
-pub program_ran : {S K A : Type 0} (source source' : S) (sink sink' : K) (kept : Option A) (status code : ℕ) (Ran : ℕ → Setting → A → Type 0) →
+pub program_ran : {S K A : Type 0} (words : List (List ℕ)) (source source' : S) (sink sink' : K) (kept : Option A) (status code : ℕ)
+    (Ran : ℕ → Setting → A → Type 0) →
     code ≡ status → (code ≡ USAGE → ⊥) →
-    (kept ≡ None → (source' ≡ source) × (sink' ≡ sink) × ((status ≡ USAGE) ⊎ (status ≡ NO_MEMORY))) → IfSome kept (λ k. (setting : Setting) × Ran status setting k) →
-    ((code ≡ NO_MEMORY) × (source' ≡ source) × (sink' ≡ sink)) ⊎ ((setting : Setting) × (k : A) × Ran code setting k)
-program_ran source source' sink sink' None status code Ran same begun untouched ran =
+    (kept ≡ None → (source' ≡ source) × (sink' ≡ sink) × ((status ≡ USAGE) ⊎ (status ≡ NO_MEMORY))) →
+    IfSome kept (λ k. (setting : Setting) × AreAsked words setting × Ran status setting k) →
+    ((code ≡ NO_MEMORY) × (source' ≡ source) × (sink' ≡ sink)) ⊎
+    ((words : List (List ℕ)) × (setting : Setting) × (k : A) × AreAsked words setting × Ran code setting k)
+program_ran words source source' sink sink' None status code Ran same begun untouched ran =
     let none = untouched refl in
     elim none.2 [
       | inl usage ↦ absurd (begun (same ∙ usage))
       | inr short ↦ inl (same ∙ short, none.0, none.1)
     ]
-program_ran source source' sink sink' (Some k) status code Ran same begun untouched ran = inr (ran.0, k, subst (λ c. Ran c ran.0 k) (sym same) ran.1)
+program_ran words source source' sink sink' (Some k) status code Ran same begun untouched ran =
+    inr (words, ran.0, k, ran.1, subst (λ c. Ran c ran.0 k) (sym same) ran.2)
+
+-- the status of the program, by that of its run
+pub program_status : (status code : ℕ) → code ≡ status → ((status ≡ USAGE → ⊥) → IsEndStatus status) → IsStatus code
+program_status status code same ends =
+    subst IsStatus (sym same) (elim (cases_eq status USAGE) [ inl usage ↦ inl usage | inr other ↦ inr (ends other) ])

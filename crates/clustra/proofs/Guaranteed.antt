@@ -2,7 +2,7 @@
 use Rattle.std.proofs.Common.{◌≡◌, ◌+◌, ℕ, ◌<◌, ◌==◌, Bool, is_some, inl, inr, List, [], ◌∷◌, ◌++◌, length, get_or, Option, None, IsSome, refl, sym, ap, subst, ◌∙◌, arith}
 use Rattle.std.proofs.lemmas.Bool.{and_parts}
 use Rattle.std.proofs.lemmas.List.{append-nil}
-use Rattle.cl_guarantee.specs.Laws.{RunsAreSerializable, ReplicasAgree, RunsNameTrueCauses, LinesAreFed, RestAnswersAll}
+use Rattle.cl_guarantee.specs.Laws.{RunsAreSerializable, ReplicasAgree, EachHasMembers, MembersHold, QuietMembersAreEqual, StandbysFollow, RunsNameTrueCauses, LinesAreFed, RestAnswersAll}
 use Rattle.cl_members.specs.Members.{feeds_in, history_after, transcript_after}
 use Rattle.cl_node.specs.declared.machine.Node.{Node}
 use Rattle.cl_roster.specs.Roster.{IsClusterSize}
@@ -33,6 +33,10 @@ use Rattle.clustra.proofs.Rests.{first_run, rests_after}
 pub record RunLaws : Type 0 where
   pub serializable : RunsAreSerializable
   pub replicas : ReplicasAgree
+  pub members : EachHasMembers
+  pub follow : StandbysFollow
+  pub held : MembersHold
+  pub equal : QuietMembersAreEqual
   pub causes : RunsNameTrueCauses
   pub fed : LinesAreFed
   pub rest : RestAnswersAll
@@ -49,7 +53,13 @@ is_run_of world run (inr left) = left.is_run
 guaranteed : RunLaws → (run : Run) → IsRun (system cluster.nodes) cluster run → IsGuaranteed cluster run
 guaranteed laws run is =
     let wide = runs_are_wide (system cluster.nodes) cluster run is in
-    record { serializable = laws.serializable cluster run lawful_size wide; replicas = laws.replicas cluster run lawful_size wide }
+    record {
+      serializable = laws.serializable cluster run lawful_size wide;
+      replicas = laws.replicas cluster run lawful_size wide;
+      members = laws.members cluster run lawful_size wide;
+      follow = laws.follow cluster run lawful_size wide;
+      held = laws.held cluster run lawful_size wide;
+    }
 
 -- the lines that were fed are the first of those that were read
 feeds_first : RunLaws → (setting : Setting) (status : ℕ) (read : List ℕ) (run : Run) (unfinished : Bool) → IsRun (system cluster.nodes) cluster run →
@@ -122,6 +132,8 @@ ran_of left_of source_faults written_of flushed_of sink_faults source source' si
           (subst (λ (t : List TranscriptEntry). Serializable t (history_after cluster run)) shown explained);
       at_each = λ first back split. guaranteed laws first (first_run cluster first back
           (subst (λ (all : Run). IsRun (system cluster.nodes) cluster all) split is_run));
+      equal = λ first back split. laws.equal cluster first lawful_size
+          (first_run cluster first back (subst (λ (all : Run). IsRun (system cluster.nodes) cluster all) split is_run));
       causes = laws.causes cluster run lawful_size is_run;
       answered = λ done. subst (λ (t : List TranscriptEntry). EveryLineAnswered t) shown
           (answers_all laws setting status (texts_in served.read) run served.answered.unfinished is_run served.answered.made done);

@@ -78,11 +78,17 @@ none_made setting status lines unbegun =
       run_is = refl;
       happens = refl;
       done = λ done. absurd (unbegun_not status DONE (inl refl) unbegun done);
+      write_fault = λ failed. absurd (unbegun_written status unbegun failed);
       unfinished_is = λ is. absurd (let no : false ≡ true = is in cc);
       unfinished_status = λ unfinished. absurd (unbegun_not status UNFINISHED (inr (inl refl)) unbegun unfinished);
       exactly = λ goes all. inr (inr (unbegun_is status unbegun));
       spent = λ spent. absurd (unbegun_not status SPENT (inr (inr refl)) unbegun spent);
     } where
+      unbegun_written : (status : ℕ) → IsFaultStatus status → status ≡ WRITE_FAULT → ⊥
+      unbegun_written status (inl unread) same = absurd (omega (arith, unread, same))
+      unbegun_written status (inr (inl stopped)) same = absurd (omega (arith, stopped, same))
+      unbegun_written status (inr (inr none)) same = absurd (omega (arith, none, same))
+
       unbegun_not : (status other : ℕ) → (other ≡ DONE) ⊎ ((other ≡ UNFINISHED) ⊎ (other ≡ SPENT)) → IsFaultStatus status → status ≡ other → ⊥
       unbegun_not status other (inl a) (inl b) same = absurd (omega (arith, a, b, same))
       unbegun_not status other (inl a) (inr (inl b)) same = absurd (omega (arith, a, b, same))
@@ -146,6 +152,7 @@ module _ {K : Type 0} (written_of flushed_of : K → Option (List ℕ)) (faults_
           run_is = refl;
           happens = ap (to_happen cluster setting always h.last) (sym h.ends.0);
           done = λ done. (h.ends.0, refl);
+          write_fault = λ failed. inl (h.ends.0, refl);
           unfinished_is = λ yes'. absurd (let no' : false ≡ true = yes' in cc);
           unfinished_status = λ ended. (write_not false status is).1.1 ended;
           exactly = λ goes all. absurd (let no' : true ≡ false = sym h.ends.0 ∙ goes in cc);
@@ -174,6 +181,7 @@ module _ {K : Type 0} (written_of flushed_of : K → Option (List ℕ)) (faults_
           run_is = sym (append-nil h.last.run);
           happens = refl;
           done = λ done. absurd (let no' : true ≡ false = (write_not true status is).1.0 done in cc);
+          write_fault = λ failed. inr refl;
           unfinished_is = λ yes'. (h.ends.0, (h.ends.1.0, refl));
           unfinished_status = λ ended. refl;
           exactly = λ goes all. write_exactly status is;
@@ -212,6 +220,10 @@ refusal_not status other (inr (inr (inl a))) (inr b) same = absurd (omega (arith
 refusal_not status other (inr (inr (inr a))) (inl b) same = absurd (omega (arith, a, b, same))
 refusal_not status other (inr (inr (inr a))) (inr b) same = absurd (omega (arith, a, b, same))
 
+refusal_written : (status : ℕ) → (status ≡ NO_MEMORY) ⊎ (status ≡ SPENT) → status ≡ WRITE_FAULT → ⊥
+refusal_written status (inl none) same = absurd (omega (arith, none, same))
+refusal_written status (inr spent) same = absurd (omega (arith, spent, same))
+
 -- an event was refused
 pub answered_refusal : {K : Type 0} (written_of flushed_of : K → Option (List ℕ)) (faults_of : K → ℕ) (setting : Setting) (status : ℕ) (lines : List (List ℕ))
     (before after : World) (sink : K) (refused : Refused) →
@@ -234,6 +246,7 @@ answered_refusal written_of flushed_of faults_of setting status lines before aft
         run_is = refl;
         happens = h.happens;
         done = λ done. absurd (refusal_not status DONE (inl refl) either done);
+        write_fault = λ failed. absurd (refusal_written status either failed);
         unfinished_is = λ yes'. absurd (let no' : false ≡ true = yes' in cc);
         unfinished_status = λ ended. absurd (refusal_not status UNFINISHED (inr (inl refl)) either ended);
         exactly = λ goes all. let few = h.within goes in absurd (omega (arith, few, all));
@@ -285,11 +298,6 @@ answer_not status other (inr a) (inr (inr (inl b))) same = absurd (omega (arith,
 answer_not status other (inr a) (inr (inr (inr (inl b)))) same = absurd (omega (arith, a, b, same))
 answer_not status other (inr a) (inr (inr (inr (inr b)))) same = absurd (omega (arith, a, b, same))
 
-fault_not : (status other : ℕ) → (other ≡ DONE) → IsFaultStatus status → status ≡ other → ⊥
-fault_not status other a (inl b) same = absurd (omega (arith, a, b, same))
-fault_not status other a (inr (inl b)) same = absurd (omega (arith, a, b, same))
-fault_not status other a (inr (inr b)) same = absurd (omega (arith, a, b, same))
-
 module _ {S K : Type 0} (left_of : S → Option (List ℕ)) (source_faults : S → ℕ) (written_of flushed_of : K → Option (List ℕ)) (sink_faults : K → ℕ)
     (source source' : S) (sink sink' : K) (setting : Setting) (status : ℕ) where
   -- the whole input was read, and its lines were answered
@@ -308,7 +316,7 @@ module _ {S K : Type 0} (left_of : S → Option (List ℕ)) (source_faults : S �
       | inr stopped ↦ answer_not status TOO_MUCH_INPUT (inr refl) is stopped
     ]);
     source_ends = record {
-      end = λ done. end;
+      end = λ unread many short. end;
       read_fault = λ failed. absurd (answer_not status READ_FAULT (inl refl) is failed);
       unfaulted = λ other. unfaulted;
       counted = counted;
@@ -338,7 +346,7 @@ module _ {S K : Type 0} (left_of : S → Option (List ℕ)) (source_faults : S �
     answered = answered_none written_of flushed_of sink_faults setting status (texts_in reads.read) world sink is whole status_is;
     nothing_fed = λ either. refl;
     source_ends = record {
-      end = λ done. absurd (fault_not status DONE refl status_is done);
+      end = λ unread many short. absurd (elim status_is [ inl failed ↦ unread failed | inr (inl stopped) ↦ many stopped | inr (inr none) ↦ short none ]);
       read_fault = λ failed. read_fault (read_by.0 failed);
       unfaulted = λ other. unfaulted (λ is'. other (read_by.1 is'));
       counted = counted;

@@ -27,9 +27,9 @@ always packet times = Deliver
 abbrev pub texts_in : List ℕ → List (List ℕ)
 texts_in bytes = map kept_line (whole_lines bytes)
 
--- nothing was answered for lack of input, of a source, or of memory for the lines
-abbrev pub IsUnbegun : ℕ → Type 0
-IsUnbegun status = (status ≡ READ_FAULT) ⊎ ((status ≡ TOO_MUCH_INPUT) ⊎ (status ≡ NO_MEMORY))
+-- the input was not read to its end, or memory was wanting
+abbrev pub IsCutShort : ℕ → Type 0
+IsCutShort status = (status ≡ READ_FAULT) ⊎ ((status ≡ TOO_MUCH_INPUT) ⊎ (status ≡ NO_MEMORY))
 
 -- the run is made by the rule, turn by turn, and ended with this status
 pub record IsMade (setting : Setting) (status : ℕ) (lines : List (List ℕ)) (run : Run) (unfinished : Bool) : Type 0 where
@@ -44,10 +44,12 @@ pub record IsMade (setting : Setting) (status : ℕ) (lines : List (List ℕ)) (
   pub happens : happened more ++ rest ≡ to_happen cluster setting always last (is_over cluster last)
   -- done: each line is fed, and the last event is the quiet moment
   pub done : status ≡ DONE → (is_over cluster last ≡ true) × (rest ≡ [])
+  -- a write that failed came after the run was over, or after all of its turns
+  pub write_fault : status ≡ WRITE_FAULT → ((is_over cluster last ≡ true) × (rest ≡ [])) ⊎ (unfinished ≡ true)
   -- unfinished: all turns are made, and the run is not over
   pub unfinished_is : unfinished ≡ true → (is_over cluster last ≡ false) × ((last.turns ≡ setting.turns) × (more ≡ []))
   pub unfinished_status : status ≡ UNFINISHED → unfinished ≡ true
-  pub exactly : is_over cluster last ≡ false → last.turns ≡ setting.turns → (status ≡ UNFINISHED) ⊎ ((status ≡ WRITE_FAULT) ⊎ IsUnbegun status)
+  pub exactly : is_over cluster last ≡ false → last.turns ≡ setting.turns → (status ≡ UNFINISHED) ⊎ ((status ≡ WRITE_FAULT) ⊎ IsCutShort status)
   -- spent: the next event needs a number above its limit
   pub spent : status ≡ SPENT → IsFirstSpent cluster run rest
 

@@ -2,9 +2,10 @@
 use Rattle.std.specs.Prelude.{◌≡◌, ℕ, ◌<◌, ◌≤◌, ◌⊎◌, Bool, List, [], ◌++◌, Option, None, IsSome, length, slice_index_or}
 use Rattle.std.specs.Io.KnownBytes.{IsAtEnd}
 use Rattle.cl_guarantee.specs.Causes.{TrueCauses}
+use Rattle.cl_guarantee.specs.Held.{AreHeldAfter, HaveMembers, LogsAreShared, MembersAreEqual}
 use Rattle.cl_io.specs.Faults.{one_more}
 use Rattle.cl_members.specs.Members.{transcript_after, history_after, IsReplicaAfter}
-use Rattle.cl_runs.specs.World.{Shape, Run, IsRun}
+use Rattle.cl_runs.specs.World.{Shape, Run, world_after, IsQuiet, IsRun}
 use Rattle.cl_schedule.specs.declared.setting.Setting.{Setting}
 use Rattle.cl_serial.specs.Serial.{Serializable, EveryLineAnswered}
 use Rattle.cl_serial.specs.Transcript.{transcript_of}
@@ -19,8 +20,8 @@ use Rattle.clustra.specs.declared.ended.TheConstants.{DONE, READ_FAULT, WRITE_FA
 
 -- what a run that ended with this status did with its source, by what the source tells
 pub record EndsSource {S : Type 0} (left_of : S → Option (List ℕ)) (faults_of : S → ℕ) (before after : S) (status : ℕ) : Type 0 where
-  -- a run that is done has read the source to its end
-  pub end : status ≡ DONE → IsAtEnd (left_of after)
+  -- a run whose lines were answered has read the source to its end
+  pub end : (status ≡ READ_FAULT → ⊥) → (status ≡ TOO_MUCH_INPUT → ⊥) → (status ≡ NO_MEMORY → ⊥) → IsAtEnd (left_of after)
   -- a read that failed was counted once, and nothing else was
   pub read_fault : status ≡ READ_FAULT → faults_of after ≡ one_more (faults_of before)
   pub unfaulted : (status ≡ READ_FAULT → ⊥) → faults_of after ≡ faults_of before
@@ -41,11 +42,14 @@ pub record EndsSink {K : Type 0} (written_of flushed_of : K → Option (List ℕ
   pub unfaulted : (status ≡ WRITE_FAULT → ⊥) → faults_of after ≡ faults_of before
   pub counted : faults_of before ≤ faults_of after
 
--- the guarantee, after a run: the history explains the transcript, and each replica has what the history says
+-- the guarantee, after a run: the history explains the transcript, each virtual node has two members, of which the primary has what the history says, and both hold what is firm
 pub record IsGuaranteed (shape : Shape) (run : Run) : Type 0 where
   pub serializable : Serializable (transcript_after shape run) (history_after shape run)
   pub replicas : (v : ℕ) (replica : ReplicaState) → IsReplicaAfter shape run v replica →
       AgreesWithHistory (transcript_after shape run) (history_after shape run) shape.nodes v replica.part
+  pub members : HaveMembers shape run
+  pub follow : LogsAreShared shape run
+  pub held : AreHeldAfter shape run
 
 -- all actors are there
 pub record HasAllActors (kept : Kept) : Type 0 where
@@ -64,6 +68,9 @@ pub record Ran {S K : Type 0} (left_of : S → Option (List ℕ)) (source_faults
   pub serializable : Serializable (transcript_of kept.transcript) (entries kept.history)
   -- so it was after each first part of the run
   pub at_each : (front back : Run) → run ≡ front ++ back → IsGuaranteed cluster front
+  -- at each quiet moment, whether it was noted or not, primary and standby of each virtual node were equal
+  pub equal : (front back : Run) → run ≡ front ++ back →
+      IsQuiet (system cluster.nodes) cluster (world_after (system cluster.nodes) cluster front) → MembersAreEqual cluster front
   -- each cause of an abort is true
   pub causes : TrueCauses cluster run
   -- a run that is done has answered every line

@@ -1,5 +1,5 @@
 -- The words of the command line.
-use Rattle.std.specs.Prelude.{◌≡◌, ℕ, ◌≤◌, Bool, true, false, List, [], ◌∷◌, Option, Some, None, codes}
+use Rattle.std.specs.Prelude.{◌≡◌, ℕ, ◌≤◌, ◌⊎◌, Bool, true, false, List, [], ◌∷◌, Option, Some, None, codes}
 use Rattle.std.specs.Fmt.{decimal}
 use Rattle.cl_schedule.specs.declared.setting.Setting.{Setting}
 use Rattle.clustra.specs.declared.limits.TheConstants.{NODES, SPARES, TURNS_MAX}
@@ -27,6 +27,10 @@ pub record AreReplay (words : List (List ℕ)) (setting : Setting) : Type 0 wher
   pub within : turns ≤ TURNS_MAX
   pub words_are : words ≡ codes "replay" ∷ codes "--turns" ∷ decimal turns ∷ step_words step
   pub setting_is : setting ≡ setting_with turns step
+
+-- the words are those of one of the two, and ask for this
+abbrev pub AreAsked : List (List ℕ) → Setting → Type 0
+AreAsked words setting = AreServe words setting ⊎ AreReplay words setting
 
 -- what words ask for, or that they are none of these
 abbrev pub ReadsWords : (Setting → Type 0) → Option Setting → Type 0

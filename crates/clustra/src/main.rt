@@ -1,13 +1,14 @@
 //! The server's program.
 #![tactic(auto)]
 
-ghost use Rattle.std.specs.Prelude.{◌≡◌, ◌⊎◌, ◌↔◌, None, IfSome};
+ghost use Rattle.std.specs.Prelude.{◌≡◌, ◌⊎◌, ◌↔◌, ℕ, List, map, None, IfSome, string_bytes};
 ghost use Rattle.std.specs.IoError.{error_kind};
 ghost use Rattle.std.specs.Process.{exit_status};
 ghost use Rattle.cl_schedule.specs.declared.setting.Setting.{Setting};
 ghost use Rattle.cl_world.specs.declared.kept.Kept.{Kept};
 ghost use Rattle.clustra.specs.Run.{IsEndStatus, IsStatus};
 ghost use Rattle.clustra.specs.RunEnds.{Ran};
+ghost use Rattle.clustra.specs.Words.{AreAsked};
 
 mod call;
 mod ended;
@@ -61,7 +62,7 @@ fn run_words<R: Threads + Wait + Sync + AllocGlobal, S: Source, K: Sink>(
     ensures untouched { result.kept ≡ None → (source.new ≡ source.old) × (sink.new ≡ sink.old) × ((result.status ≡ USAGE) ⊎ (result.status ≡ NO_MEMORY)) }
     ensures unkept { result.status ≡ USAGE → result.kept ≡ None }
     ensures status { (result.status ≡ USAGE → ⊥) → IsEndStatus result.status }
-    ensures ran { IfSome result.kept (λ kept. (setting : Setting)
+    ensures ran { IfSome result.kept (λ kept. (setting : Setting) × AreAsked (map string_bytes words.now) setting
         × Ran S.left S.faults K.written K.flushed K.faults source.old source.new sink.old sink.new setting result.status kept) }
 {
     match words.first() {
@@ -84,9 +85,9 @@ fn run_program<R: Threads + Wait + Sync + Env + AllocGlobal, S: Source, K: Sink>
     // the words or for the cluster.
     ensures usage { exit_status result ≡ USAGE → (source.new ≡ source.old) × (sink.new ≡ sink.old) }
 
-    // Else all that the top calls promise holds of the exit status, for some setting and what was kept.
+    // Else all that the top calls promise holds of the exit status, for a setting that some words ask for, and what was kept.
     ensures ran { (exit_status result ≡ USAGE → ⊥) → ((exit_status result ≡ NO_MEMORY) × (source.new ≡ source.old) × (sink.new ≡ sink.old))
-        ⊎ ((setting : Setting) × (kept : Kept) × Ran S.left S.faults K.written K.flushed K.faults source.old source.new sink.old sink.new setting (exit_status result) kept) }
+        ⊎ ((words : List (List ℕ)) × (setting : Setting) × (kept : Kept) × AreAsked words setting × Ran S.left S.faults K.written K.flushed K.faults source.old source.new sink.old sink.new setting (exit_status result) kept) }
 {
     match words_of(rt) {
         Ok(words) => ExitCode::from(run_words(rt, &words, source, sink).status),

@@ -1,4 +1,5 @@
 //! Events in words.
+use cl_log::LogRec;
 use cl_steps::FRONT;
 use cl_types::{NoMemory, TxnId};
 use cl_wire::{Body, Packet};
@@ -19,6 +20,19 @@ fn push_actor(alloc: Global, text: &mut Vec<u8>, actor: u32) -> Result<(), NoMem
     }
 }
 
+// What a record of a log is called.
+fn name_of(content: &LogRec) -> &'static str {
+    match content {
+        LogRec::Touch(..) => "Log of Touch",
+        LogRec::Set(..) => "Log of Set",
+        LogRec::Add(..) => "Log of Add",
+        LogRec::Comp(..) => "Log of Comp",
+        LogRec::Prepared(_) => "Log of Prepared",
+        LogRec::End(..) => "Log of End",
+        LogRec::Decide(_) => "Log of Decide",
+    }
+}
+
 // The kind of a packet, and the transaction that it names, if it names one.
 fn kind_of(body: &Body) -> (&'static str, Option<TxnId>) {
     match body {
@@ -31,6 +45,8 @@ fn kind_of(body: &Body) -> (&'static str, Option<TxnId>) {
         Body::Vote(_, txn) => ("Vote", Some(*txn)),
         Body::Finish(_, txn, true) => ("Finish with commit", Some(*txn)),
         Body::Finish(_, txn, false) => ("Finish without commit", Some(*txn)),
+        Body::Log(_, _, content) => (name_of(content), Some(content.txn())),
+        Body::LogAck(..) => ("LogAck", None),
         _ => ("another kind", None),
     }
 }

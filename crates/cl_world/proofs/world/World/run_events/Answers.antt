@@ -1,5 +1,5 @@
 use Rattle.std.proofs.lemmas.Result.{err_from_is_err_and}
-use Rattle.cl_exchange.proofs.Runs.{every_input_fits}
+use Rattle.cl_cluster.proofs.EveryRun.{every_input_fits}
 use Rattle.cl_world.proofs.Follows.{begins, turn_may, turn_made, turn_refused, turns_end}
 use Rattle.cl_world.proofs.world.World.run_events.Goals as goal
 
