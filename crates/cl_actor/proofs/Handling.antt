@@ -12,14 +12,14 @@ use Rattle.cl_post.specs.declared.outs.Outs.{Outs}
 use Rattle.cl_post.specs.Steps.{OutsData, IsStep, IsSpentWhere, IsSpentByMark, outs_of}
 use Rattle.cl_roster.specs.View.{RosterView}
 use Rattle.cl_steps.specs.declared.steps.Steps.{Steps}
-use Rattle.cl_steps.specs.Steps.{step_of, nothing_done}
+use Rattle.cl_steps.specs.Steps.{step_of, nothing_done, AreFewer, receivers}
 use Rattle.cl_types.specs.declared.answers.Refused.{Refused}
 use Rattle.cl_types.specs.declared.answers.Refused.TheVariants.{NoMemory, Spent}
 use Rattle.cl_types.specs.declared.operations.TxnId.{TxnId}
 use Rattle.cl_wire.specs.Message.{Message, Content}
 use Rattle.cl_actor.proofs.Receivers.{All-of_map, each_of_fewer, more_is_spent}
 use Rattle.cl_actor.specs.Acting.{ActingState, noted_in, unmoved, is_now, delivery, is_handling_spent, endpoint_after, outs_after, finished, handled, SendsToActors}
-use Rattle.cl_actor.specs.Core.{Noted, noted_of, CoreStep, AreFewer, receivers, IsCoreStep}
+use Rattle.cl_actor.specs.Core.{Noted, noted_of, CoreStep, IsCoreStep}
 
 -- who sends nothing gives nothing
 pub gives_nothing : (endpoint : EndpointState) → after_gives endpoint [] ≡ endpoint
@@ -133,18 +133,18 @@ module _ {S : Type 0} (delivered : Noted → S → ℕ → Content → Bool → 
   module _ (before : ActingState S) (m : Message) (noted : Noted) (steps : Steps)
       (tells : noted ≡ noted_in before.endpoint)
       (step : step_of steps ≡ (delivered noted before.core m.from m.content steps.short).step)
-      (fewer : AreFewer (receivers (delivered (noted_in before.endpoint) before.core m.from m.content true))
-      (receivers (delivered (noted_in before.endpoint) before.core m.from m.content false))) where
+      (fewer : AreFewer (receivers (delivered (noted_in before.endpoint) before.core m.from m.content true).step)
+      (receivers (delivered (noted_in before.endpoint) before.core m.from m.content false).step)) where
     -- to whom the step with this mark sends
     to_with : Bool → List ℕ
-    to_with mark = receivers (delivered (noted_in before.endpoint) before.core m.from m.content mark)
+    to_with mark = receivers (delivered (noted_in before.endpoint) before.core m.from m.content mark).step
 
     -- it is made with its mark
     same_receivers : map (λ message. message.to) (step_of steps).sends ≡ to_with steps.short
     unfolding to_with
     same_receivers =
         ap (λ one. map (λ message. message.to) one.sends) step
-        ∙ ap (λ one. receivers (delivered one before.core m.from m.content steps.short)) tells
+        ∙ ap (λ one. receivers (delivered one before.core m.from m.content steps.short).step) tells
 
     -- with no mark a step sends to no fewer
     fewer_with : (mark : Bool) → AreFewer (to_with mark) (to_with false)
@@ -195,7 +195,7 @@ module _ {S : Type 0} (delivered : Noted → S → ℕ → Content → Bool → 
       IsSpentWhere {A = Steps} (is_delivery_spent noted before.core m.from m.content) (Err refused) →
       IsSpentByMark (is_handling_spent delivered is_delivery_spent before m) (Err refused)
   accepted_refusal_is_spent before m heard owed noted is_delivery_spent refused meets spent =
-      let links : Bool = is_spent_to (after_receive before.endpoint m.from m.seq m.ack) (receivers (delivery delivered before m false)) in
+      let links : Bool = is_spent_to (after_receive before.endpoint m.from m.seq m.ack) (receivers (delivery delivered before m false).step) in
       refused_by_mark _ refused (λ e.
       ap (λ one. is_now one && (is_delivery_spent (noted_in before.endpoint) before.core m.from m.content || links)) meets.now
       ∙ ap (λ one. is_delivery_spent one before.core m.from m.content || links) (sym meets.tells)
@@ -207,4 +207,4 @@ pub line_sends_to_actors : {S : Type 0} (fed : Noted → S → ℕ → List ℕ 
     SendsToActors (fed (noted_in before.endpoint) before.core line text said) → All (λ message. message.to < ACTORS) (step_of steps).sends
 line_sends_to_actors fed before line text said noted steps tells step fits =
     All-of_map (λ to. to < ACTORS) (λ message. message.to) _ (All-same (λ to. to < ACTORS) _ _
-    (ap (λ one. map (λ message. message.to) one.sends) step ∙ ap (λ one. receivers (fed one before.core line text said)) tells) fits)
+    (ap (λ one. map (λ message. message.to) one.sends) step ∙ ap (λ one. receivers (fed one before.core line text said).step) tells) fits)

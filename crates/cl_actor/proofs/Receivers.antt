@@ -8,7 +8,7 @@ use Rattle.std.proofs.lemmas.List.Folds.{list_any_none}
 use Rattle.std.proofs.lemmas.List.Sums.{sum_by-cons}
 use Rattle.std.proofs.Math.Path.{fun_ext}
 use Rattle.std.specs.List.{list_any}
-use Rattle.cl_actor.specs.Core.{AreFewer}
+use Rattle.cl_steps.specs.Steps.{AreFewer}
 use Rattle.cl_endpoint.specs.Endpoint.{EndpointState, link_to, is_spent_to}
 use Rattle.cl_link.specs.declared.link.TheConstants.{NUMBER_MAX}
 use Rattle.cl_link.specs.LinkState.{last_number}

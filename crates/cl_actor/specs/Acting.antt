@@ -8,9 +8,9 @@ use Rattle.cl_endpoint.specs.Emission.{emitted, after_emit}
 use Rattle.cl_endpoint.specs.Endpoint.{EndpointState, received, after_receive, owed_to, after_gives, is_spent_to, after_tick}
 use Rattle.cl_lines.specs.declared.out.Out.{Out}
 use Rattle.cl_post.specs.Steps.{Input, handle, tick, feed, quiet, OutsData, no_outs}
-use Rattle.cl_steps.specs.Steps.{Step, nothing_done}
+use Rattle.cl_steps.specs.Steps.{Step, nothing_done, receivers}
 use Rattle.cl_wire.specs.Message.{Message, Content}
-use Rattle.cl_actor.specs.Core.{Noted, CoreStep, receivers}
+use Rattle.cl_actor.specs.Core.{Noted, CoreStep}
 use Rattle.cl_actor.specs.declared.acting.Acting.{Acting}
 
 -- the core of an actor
@@ -59,7 +59,7 @@ is_now other = false
 
 -- each receiver of a step is an actor
 abbrev pub SendsToActors : {S : Type 0} → CoreStep S → Type 0
-SendsToActors stepped = All (λ to. to < ACTORS) (receivers stepped)
+SendsToActors stepped = All (λ to. to < ACTORS) (receivers stepped.step)
 
 -- by the steps that a core makes on messages
 module _ {S : Type 0} (delivered : Noted → S → ℕ → Content → Bool → CoreStep S) where
@@ -81,7 +81,7 @@ module _ {S : Type 0} (delivered : Noted → S → ℕ → Content → Bool → 
   is_handling_spent is_delivery_spent before m mark =
       is_now (received before.endpoint m.from m.seq)
       && (is_delivery_spent (noted_in before.endpoint) before.core m.from m.content
-      || is_spent_to (after_receive before.endpoint m.from m.seq m.ack) (receivers (delivery before m mark)))
+      || is_spent_to (after_receive before.endpoint m.from m.seq m.ack) (receivers (delivery before m mark).step))
 
 -- the actor can handle a packet: an actor sends it, and the core can take its message, where it is accepted now, and sends to actors alone
 pub record HandlingFits {S : Type 0} (delivered : Noted → S → ℕ → Content → Bool → CoreStep S) (DeliveryFits : Noted → S → ℕ → Content → Type 0) (before : ActingState S) (m : Message) : Type 0 where
@@ -103,7 +103,7 @@ module _ {S : Type 0} (fed : Noted → S → ℕ → List ℕ → List Out → C
   abbrev pub is_feeding_spent : (Noted → S → ℕ → List ℕ → List Out → Bool) → ActingState S → ℕ → List ℕ → List Out → Bool
   is_feeding_spent is_line_spent before line text said =
       is_line_spent (noted_in before.endpoint) before.core line text said
-      || is_spent_to before.endpoint (receivers (fed (noted_in before.endpoint) before.core line text said))
+      || is_spent_to before.endpoint (receivers (fed (noted_in before.endpoint) before.core line text said).step)
 
 -- the actor can be fed a line: the core can take it, and sends to actors alone
 pub record FeedingFits {S : Type 0} (fed : Noted → S → ℕ → List ℕ → List Out → CoreStep S) (LineFits : Noted → S → ℕ → List ℕ → List Out → Type 0) (before : ActingState S) (line : ℕ) (text : List ℕ) (said : List Out) : Type 0 where

@@ -1,6 +1,5 @@
 -- What a core knows of the roster, and what its step gives.
-use Rattle.std.specs.Prelude.{◌≡◌, ℕ, nat_eq, ◌≤◌, Bool, List, map, Result, Ok, Err}
-use Rattle.std.specs.List.{count_by}
+use Rattle.std.specs.Prelude.{◌≡◌, ℕ, Bool, List, Result, Ok, Err}
 use Rattle.cl_roster.specs.declared.entry.RosterEntry.{RosterEntry}
 use Rattle.cl_roster.specs.Roles.{roles_after}
 use Rattle.cl_roster.specs.View.{RosterView}
@@ -26,14 +25,6 @@ primary_in noted v = (roles_after noted.nodes noted.entries v).primary
 pub record CoreStep (S : Type 0) : Type 0 where
   pub state : S
   pub step : Step
-
--- to whom a step sends, in order
-abbrev pub receivers : {S : Type 0} → CoreStep S → List ℕ
-receivers stepped = map (λ message. message.to) stepped.step.sends
-
--- each of the first is among the second, and no more often than there
-abbrev pub AreFewer : List ℕ → List ℕ → Type 0
-AreFewer first second = (to : ℕ) → count_by (nat_eq to) first ≤ count_by (nat_eq to) second
 
 -- where the step was made, the core will have the state after it, and it gave what the step gives, each with the mark that was given
 abbrev pub IsCoreStep : {S : Type 0} → (S → Type 0) → (Bool → CoreStep S) → Result Steps Refused → Type 0

@@ -1,11 +1,12 @@
 //! What an actor decides.
 ghost use Rattle.std.specs.Prelude.{◌≡◌, ℕ, Bool, true, false, List, map, OnErr};
+ghost use Rattle.cl_steps.specs.Steps.{AreFewer, receivers};
 ghost use Rattle.cl_lines.specs.declared.out.Out.{Out as Printed};
 ghost use Rattle.cl_post.specs.Steps.{IsSpentWhere};
 ghost use Rattle.cl_serial.specs.Transcript.{TranscriptEntry};
 ghost use Rattle.cl_types.specs.GrowingList.{items};
 ghost use Rattle.cl_wire.specs.Message.{Content, content_of};
-ghost use Rattle.cl_actor.specs.Core.{Noted, noted_of, CoreStep, IsCoreStep, AreFewer, receivers};
+ghost use Rattle.cl_actor.specs.Core.{Noted, noted_of, CoreStep, IsCoreStep};
 
 use cl_post::OutList;
 use cl_roster::Roster;
@@ -74,5 +75,5 @@ pub trait Core {
 
     // With the mark a step sends to no actor that it does not send to without, nor more often.
     ghost fewer_by_mark: { (core : Self) (noted : Noted) (state : Self.State) (from : ℕ) (content : Content) → Self.is_state core state
-        → AreFewer (receivers (Self.delivered noted state from content true)) (receivers (Self.delivered noted state from content false)) };
+        → AreFewer (receivers (Self.delivered noted state from content true).step) (receivers (Self.delivered noted state from content false).step) };
 }

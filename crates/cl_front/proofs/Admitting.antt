@@ -8,7 +8,7 @@ use Rattle.cl_endpoint.specs.declared.limits.TheConstants.{ACTORS}
 use Rattle.cl_endpoint.specs.declared.received.Received.TheVariants.{Now}
 use Rattle.cl_endpoint.specs.Endpoint.{EndpointState, received}
 use Rattle.cl_front.specs.Front.{FrontState, fed_front, delivered_front, FitsAs, LineFits, DeliveryFits}
-use Rattle.cl_front.specs.FrontCore.{IsReady}
+use Rattle.cl_front.specs.FrontCore.{HasNextNumbers}
 use Rattle.cl_front.specs.Machine.{FrontMachineState, IsOutcome}
 use Rattle.cl_front.specs.Session.{SessionState, no_session, HasNextNumber}
 use Rattle.cl_front.specs.Sessions.{session_in}
@@ -37,7 +37,7 @@ each_of [] each = All-nil (λ (one : SessionState). HasNextNumber one.current)
 each_of (session ∷ rest) each = All-cons (λ (one : SessionState). HasNextNumber one.current) session rest (each 0) (each_of rest (λ k. each (suc k)))
 
 -- and the other way round
-pub ready_all : (state : FrontState) → IsReady state → All (λ (session : SessionState). HasNextNumber session.current) state.sessions
+pub ready_all : (state : FrontState) → HasNextNumbers state → All (λ (session : SessionState). HasNextNumber session.current) state.sessions
 ready_all state ready = each_of state.sessions (λ k.
     let P : ℕ → Type 0 = λ index. HasNextNumber (slice_index_or state.sessions index no_session).current in
     let e : k + 1 - 1 ≡ k = omega arith in subst P e (ready (k + 1)))
@@ -47,16 +47,16 @@ pub lawfully : (view : RosterView) (endpoint : EndpointState) → noted_of view 
     IsLawfullyNoted (noted_in endpoint)
 lawfully view endpoint same size lawful = subst IsLawfullyNoted same (let is : IsLawfullyNoted (noted_of view) = record { size = size; lawful = lawful } in is)
 
-fits_as : (state : FrontState) (read : Result Line LineFault) → IsReady state → FitsAs state read
+fits_as : (state : FrontState) (read : Result Line LineFault) → HasNextNumbers state → FitsAs state read
 fits_as state (Ok (Client s command)) ready = ready s
 fits_as state (Ok (Operator order)) ready = tt
 fits_as state (Err fault) ready = tt
 
-outcome_fits : (noted : Noted) (state : FrontState) (from : ℕ) (content : Content) → IsOutcome content → IsReady state → DeliveryFits noted state from content
+outcome_fits : (noted : Noted) (state : FrontState) (from : ℕ) (content : Content) → IsOutcome content → HasNextNumbers state → DeliveryFits noted state from content
 outcome_fits noted state from (message.Outcome txn number outcome) is ready = ready txn.session
 outcome_fits noted state from content is ready = absurd is
 
-module _ (before : FrontMachineState) (ready : IsReady before.core) (is : IsLawfullyNoted (noted_in before.endpoint)) where
+module _ (before : FrontMachineState) (ready : HasNextNumbers before.core) (is : IsLawfullyNoted (noted_in before.endpoint)) where
   pub feeding_fits : (line : ℕ) (text : List ℕ) (said : List Out) → FeedingFits fed_front LineFits before line text said
   feeding_fits line text said = record {
     core = fits_as before.core (line_of text) ready;

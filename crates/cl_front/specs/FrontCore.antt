@@ -22,5 +22,5 @@ abbrev pub transcript_in : FrontCore → List TranscriptEntry
 transcript_in core = core.recorder.transcript
 
 -- the next command of each session can have a number
-abbrev pub IsReady : FrontState → Type 0
-IsReady state = (s : ℕ) → HasNextNumber (session_in state.sessions s).current
+abbrev pub HasNextNumbers : FrontState → Type 0
+HasNextNumbers state = (s : ℕ) → HasNextNumber (session_in state.sessions s).current

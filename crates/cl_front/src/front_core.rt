@@ -1,7 +1,7 @@
 //! The core of the front.
 ghost use Rattle.std.specs.Prelude.{◌≡◌, [], IsTrue, IfOk, OnOk, OnErr};
 ghost use Rattle.cl_front.specs.Front.{FrontState, new_front, quiet_front, is_answered};
-ghost use Rattle.cl_front.specs.FrontCore.{IsFront, IsReady, transcript_in};
+ghost use Rattle.cl_front.specs.FrontCore.{IsFront, HasNextNumbers, transcript_in};
 ghost use Rattle.cl_serial.specs.Transcript.{transcript_of};
 
 use crate::recorder::Recorder;
@@ -66,8 +66,8 @@ impl FrontCore {
 
     /// Whether the step before was settled, and the next command of each session can have a number. It asks each session.
     pub(crate) fn is_ready(&self) -> bool
-        ensures told { IsTrue result → (state : FrontState) × IsFront self.now state × IsReady state }
-        ensures refused { (state : FrontState) → IsFront self.now state → IsReady state → IsTrue result }
+        ensures told { IsTrue result → (state : FrontState) × IsFront self.now state × HasNextNumbers state }
+        ensures refused { (state : FrontState) → IsFront self.now state → HasNextNumbers state → IsTrue result }
     {
         self.recorder.is_settled() && self.sessions.have_next_numbers()
     }

@@ -2,7 +2,7 @@
 ghost use Rattle.std.specs.Prelude.{◌≡◌, ◌<◌, ℕ, List, IsTrue, IfOk, OnOk, OnErr};
 ghost use Rattle.cl_endpoint.specs.declared.limits.TheConstants.{ACTORS};
 ghost use Rattle.cl_endpoint.specs.Endpoint.{is_waiting, received, set_number};
-ghost use Rattle.cl_front.specs.FrontCore.{IsReady};
+ghost use Rattle.cl_front.specs.FrontCore.{HasNextNumbers};
 ghost use Rattle.cl_front.specs.Machine.{FrontFits, FrontMachineState, IsFrontMachine, IsOutcome, first_machine, after_quiet, after_taking, is_machine_answered, printed_by, endpoint_in};
 ghost use Rattle.cl_lines.specs.declared.out.Out.{Out as Printed};
 ghost use Rattle.cl_post.specs.Steps.{handle, feed};
@@ -71,7 +71,7 @@ impl Front {
     pub fn admits_lines(&self) -> bool
         ensures admitted { IsTrue result → (before : FrontMachineState) × IsFrontMachine self.now before
             × ((line : ℕ) (text : List ℕ) (said : List Printed) → FrontFits before (feed line text said)) }
-        ensures refused { (state : FrontMachineState) → IsFrontMachine self.now state → IsReady state.core → IsTrue result }
+        ensures refused { (state : FrontMachineState) → IsFrontMachine self.now state → HasNextNumbers state.core → IsTrue result }
     {
         rosters_are_lawful(self.acting.roster());
         self.acting.core().is_ready()
@@ -80,7 +80,7 @@ impl Front {
     /// Whether the front can handle the packet now. It asks each session, and a caller that keeps to the order need not ask.
     pub fn admits(&self, packet: &Packet) -> bool
         ensures admitted { IsTrue result → (before : FrontMachineState) × IsFrontMachine self.now before × FrontFits before (handle (message_of packet.now)) }
-        ensures refused { (state : FrontMachineState) → IsFrontMachine self.now state → IsReady state.core → FrontFits state (handle (message_of packet.now)) → IsTrue result }
+        ensures refused { (state : FrontMachineState) → IsFrontMachine self.now state → HasNextNumbers state.core → FrontFits state (handle (message_of packet.now)) → IsTrue result }
     {
         rosters_are_lawful(self.acting.roster());
         if packet.from as usize >= ACTORS {

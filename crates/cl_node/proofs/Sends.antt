@@ -1,6 +1,7 @@
 -- What a node sends goes to actors.
 use Rattle.std.proofs.Common.{◌≡◌, ℕ, ◌<◌, Bool, All, Option, Some, None, inl, inr, sym, subst, arith}
 use Rattle.std.proofs.lemmas.List.Elements.{All-nil, All-weaker}
+use Rattle.cl_steps.specs.Steps.{receivers}
 use Rattle.cl_actor.specs.Acting.{SendsToActors}
 use Rattle.cl_actor.specs.Core.{Noted}
 use Rattle.cl_actor.specs.Laws.{IsLawfullyNoted}
@@ -12,7 +13,7 @@ use Rattle.cl_node.specs.Node.{NodeState, replica_at, replica_for, replica_step,
 use Rattle.cl_repair.specs.declared.mode.Mode.{Mode}
 use Rattle.cl_repair.specs.declared.mode.Mode.TheVariants.{Lone, Pair}
 use Rattle.cl_vnode.specs.Inputs.{Fits, IsStandbyBelow}
-use Rattle.cl_vnode.specs.Laws.{IsReceiver, IsStandbyIn, receivers}
+use Rattle.cl_vnode.specs.Laws.{IsReceiver, IsStandbyIn}
 use Rattle.cl_vnode.specs.Replica.{ReplicaState}
 use Rattle.cl_vnode.specs.Standby.{standby_stepped}
 use Rattle.cl_vnode.specs.Step as replica

@@ -2,8 +2,8 @@
 use Rattle.std.proofs.Common.{◌≡◌, ◌≢◌, ℕ, ◌≤◌, ◌&&◌, Bool, true, false, cond, inl, inr, List, [], ◌∷◌, ◌++◌, length, All, Option, Some, None, refl, sym, ap, ◌∙◌, subst, subst₂}
 use Rattle.std.proofs.lemmas.Bool.{true≢false, cases_eq, cond_both, cond-true, eq-eqb, ne_eqb, or_parts}
 use Rattle.std.proofs.lemmas.List.Elements.{All-head}
+use Rattle.cl_steps.specs.Steps.{receivers}
 use Rattle.cl_actor.specs.Acting.{noted_in, unmoved, is_now, delivery, is_handling_spent}
-use Rattle.cl_actor.specs.Core.{receivers}
 use Rattle.cl_cluster.proofs.Nodes.{addressed_to, node_with, node_here, primary_in_slot}
 use Rattle.cl_endpoint.specs.declared.received.Received.TheVariants.{Now}
 use Rattle.cl_endpoint.specs.Endpoint.{EndpointState, link_to, received, after_receive, is_spent_to}
@@ -92,7 +92,7 @@ module _ (shape : Shape) (size : IsClusterSize shape.nodes shape.spares) (watche
     tests : received (world.actors me).endpoint m.from m.seq ≡ Now →
         (is_core_delivery_spent (noted_in (world.actors me).endpoint) (world.actors me).core m.from m.content ≡ false)
         × (is_spent_to (after_receive (world.actors me).endpoint m.from m.seq m.ack)
-        (receivers (delivery (delivered_core me) (world.actors me) m mark)) ≡ false)
+        (receivers (delivery (delivered_core me) (world.actors me) m mark).step) ≡ false)
     tests now = or_parts _ _ (both_false _ _ unspent (ap is_now now))
 
     -- what is accepted now is the first message on its way

@@ -128,11 +128,6 @@ pub record EveryLineAnswered (transcript : List TranscriptEntry) : Type 0 where
   pub refused : (position line : ℕ) (text : List ℕ) (fault : LineFault) → StandsAt transcript position (fed line text) → fault_of text ≡ Some fault →
       (after : ℕ) × (position < after) × StandsAt transcript after (written (BadLine line fault))
 
--- the operations of the transaction that a session is still in have the replies that this map gives
-abbrev pub OpenRepliesAgree : List TranscriptEntry → List TxnId → Type 0
-OpenRepliesAgree transcript history = (session : ℕ) →
-    RepliesAgree (values_after transcript history) (operations (commands_in (session_state session transcript).current))
-
 -- the guarantee: the history explains the transcript, one transaction after another
 pub record Serializable (transcript : List TranscriptEntry) (history : List TxnId) : Type 0 where
   pub history_fits : HistoryFits transcript history

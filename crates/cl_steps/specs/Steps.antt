@@ -1,5 +1,6 @@
 -- What a step of a core gives, as plain data.
-use Rattle.std.specs.Prelude.{◌≡◌, ℕ, Bool, true, false, List, [], Option, None, Result, Ok, Err}
+use Rattle.std.specs.Prelude.{◌≡◌, ℕ, nat_eq, ◌≤◌, Bool, true, false, List, [], map, Option, None, Result, Ok, Err}
+use Rattle.std.specs.List.{count_by}
 use Rattle.cl_types.specs.declared.answers.Refused.{Refused}
 use Rattle.cl_types.specs.declared.answers.Refused.TheVariants.{NoMemory, Spent}
 use Rattle.cl_types.specs.declared.operations.TxnId.{TxnId}
@@ -27,6 +28,14 @@ nothing_done = record { sends = []; firm = []; entry = None; short = false }
 -- what a step gives, without the room of its lists
 abbrev pub step_of : Steps → Step
 step_of steps = record { sends = items steps.send; firm = items steps.firm; entry = steps.entry; short = steps.short }
+
+-- to whom a step sends, in order
+abbrev pub receivers : Step → List ℕ
+receivers step = map (λ message. message.to) step.sends
+
+-- each actor is among the first ones at most as often as among the others
+abbrev pub AreFewer : List ℕ → List ℕ → Type 0
+AreFewer few many = (to : ℕ) → count_by (nat_eq to) few ≤ count_by (nat_eq to) many
 
 -- it is refused as spent only where the step is spent, and made only where it is not
 abbrev pub IsSpentWhere : {A : Type 0} → Bool → Result A Refused → Type 0

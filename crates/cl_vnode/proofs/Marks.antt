@@ -17,10 +17,10 @@ use Rattle.cl_control.specs.Calls.{safe_acts, after_safe}
 use Rattle.cl_repair.specs.declared.mode.Mode.{Mode}
 use Rattle.cl_repair.specs.declared.mode.Mode.TheVariants.{Lone, Pair}
 use Rattle.cl_steps.specs.declared.steps.Outgoing.{Outgoing}
-use Rattle.cl_steps.specs.Steps.{sent}
+use Rattle.cl_steps.specs.Steps.{sent, AreFewer, receivers}
 use Rattle.cl_wire.specs.Message.{Content, Ask}
 use Rattle.cl_vnode.specs.declared.vnode.Vnode.{Vnode}
-use Rattle.cl_vnode.specs.Laws.{AreFewer, receivers, MarksAreAlike}
+use Rattle.cl_vnode.specs.Laws.{MarksAreAlike}
 use Rattle.cl_vnode.specs.Replica.{ReplicaState, IsReplicaStateOf, safe_number}
 use Rattle.cl_vnode.specs.Step.{Stepped, started, with_message, with_control, performed, decided, all_performed, asked, home_of, told, entry_told, entries_between, all_told, log_messages, entries_from, shipped}
 use Rattle.cl_vnode.proofs.Telling.{none_between, none_from}

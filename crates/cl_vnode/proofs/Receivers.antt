@@ -18,12 +18,12 @@ use Rattle.cl_control.specs.State.{ControlState}
 use Rattle.cl_part.specs.State.{State}
 use Rattle.cl_steps.specs.declared.steps.Outgoing.{Outgoing}
 use Rattle.cl_steps.specs.declared.actors.TheConstants.{FRONT}
-use Rattle.cl_steps.specs.Steps.{sent}
+use Rattle.cl_steps.specs.Steps.{sent, receivers}
 use Rattle.cl_wire.specs.Message.{Content, Command, Answer, Vote, Ask, Prepare, Finish, Decision, Log}
 use Rattle.cl_repair.specs.declared.mode.Mode.{Mode}
 use Rattle.cl_repair.specs.declared.mode.Mode.TheVariants.{Lone, Pair}
 use Rattle.cl_vnode.specs.Inputs.{Fits}
-use Rattle.cl_vnode.specs.Laws.{IsReceiver, IsStandbyIn, receivers, StepsSendToReceivers, StandbyStepsSendBack}
+use Rattle.cl_vnode.specs.Laws.{IsReceiver, IsStandbyIn, StepsSendToReceivers, StandbyStepsSendBack}
 use Rattle.cl_vnode.specs.Replica.{safe_number}
 use Rattle.cl_vnode.specs.Sending.{IsSend, AreSends, AreActs}
 use Rattle.cl_vnode.specs.Step.{Stepped, started, with_message, with_part, with_control, after_finish, performed, decided, all_performed, commanded, answered, voted, asked, prepared, finished, taken, home_of, told, entry_told, entries_between, all_told, log_message, log_messages, entries_from, shipped}

@@ -1,11 +1,10 @@
 -- The laws of a step.
-use Rattle.std.specs.Prelude.{◌≡◌, ℕ, ◌<◌, ◌≤◌, nat_eq, Bool, false, ◌⊎◌, List, map, All}
-use Rattle.std.specs.List.{count_by}
+use Rattle.std.specs.Prelude.{◌≡◌, ℕ, ◌<◌, Bool, false, ◌⊎◌, All}
 use Rattle.cl_types.specs.Placement.{IsNodeCount}
 use Rattle.cl_repair.specs.declared.mode.Mode.{Mode}
 use Rattle.cl_repair.specs.declared.mode.Mode.TheVariants.{Lone, Pair}
 use Rattle.cl_steps.specs.declared.actors.TheConstants.{FRONT}
-use Rattle.cl_steps.specs.Steps.{Step}
+use Rattle.cl_steps.specs.Steps.{Step, AreFewer, receivers}
 use Rattle.cl_wire.specs.Message.{Content}
 use Rattle.cl_vnode.specs.declared.vnode.Vnode.{Vnode}
 use Rattle.cl_vnode.specs.Inputs.{Fits}
@@ -31,14 +30,6 @@ StepsKeepReplica = (primary : ℕ → ℕ) (state : ReplicaState) (from : ℕ) (
 -- nor does a step of a standby
 abbrev pub StandbyStepsKeepReplica : Type 0
 StandbyStepsKeepReplica = (state : ReplicaState) (from : ℕ) (content : Content) → IsSameReplica state (standby_stepped state from content).state
-
--- to whom a step sends, in order
-abbrev pub receivers : Step → List ℕ
-receivers step = map (λ message. message.to) step.sends
-
--- each actor is among the first ones at most as often as among the others
-abbrev pub AreFewer : List ℕ → List ℕ → Type 0
-AreFewer few many = (to : ℕ) → count_by (nat_eq to) few ≤ count_by (nat_eq to) many
 
 -- where memory was short, a step of a replica sends to the same actors, or to fewer: then nothing is shipped
 abbrev pub MarksAreAlike : Type 0
