@@ -22,7 +22,7 @@ use Rattle.cl_serial.specs.PlainMap.{RepliesAgree}
 use Rattle.cl_serial.specs.Serial.{Serializable, EveryLineAnswered, values_after}
 use Rattle.cl_serial.specs.Transcript.{TranscriptEntry, fed_lines}
 use Rattle.cl_served.specs.Laws.{FirmRunsAreSerializable}
-use Rattle.cl_served.specs.Served.{done_of}
+use Rattle.cl_shown.specs.Done.{done_of}
 use Rattle.cl_settled.specs.Laws as settled
 use Rattle.cl_settled.specs.Settled.{HasBroken, AgreesWithHistory}
 use Rattle.cl_shown.specs.Laws.{transcript_of_firm, FirmLinesAreFed, FirmRestAnswersAll}

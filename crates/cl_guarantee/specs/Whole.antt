@@ -1,19 +1,20 @@
 -- A transaction outside the history is whole, or it is lost.
-use Rattle.std.specs.Prelude.{◌≡◌, ℕ, false, ◌++◌}
+use Rattle.std.specs.Prelude.{◌≡◌, ℕ, true, false, ◌++◌}
 use Rattle.cl_log.specs.Open.{is_among}
 use Rattle.cl_members.specs.Members.{transcript_after, history_after, IsReplicaAfter}
 use Rattle.cl_runs.specs.World.{Shape, Run}
 use Rattle.cl_serial.specs.PlainMap.{RepliesAgree}
 use Rattle.cl_serial.specs.Serial.{values_after}
-use Rattle.cl_served.specs.Served.{done_of}
+use Rattle.cl_shown.specs.Done.{done_of}
 use Rattle.cl_settled.specs.Settled.{HasBroken}
-use Rattle.cl_system.specs.Roles.{IsOfSession}
+use Rattle.cl_types.specs.Names.{is_between}
+use Rattle.cl_types.specs.declared.limits.TheConstants.{SESSIONS_MAX}
 use Rattle.cl_types.specs.declared.operations.TxnId.{TxnId}
 use Rattle.cl_vnode.specs.Replica.{ReplicaState}
 
 -- after the run the transaction is no member, and no primary's log has a record that breaks it
 pub record IsUnbrokenAfter (shape : Shape) (run : Run) (txn : TxnId) : Type 0 where
-  pub session : IsOfSession txn
+  pub session : is_between 1 SESSIONS_MAX txn.session ≡ true
   pub outside : is_among txn (history_after shape run) ≡ false
   pub unbroken : (v : ℕ) (primary : ReplicaState) → IsReplicaAfter shape run v primary → HasBroken primary.part.log txn → ⊥
 
@@ -24,7 +25,7 @@ UnbrokenReplays shape run = (txn : TxnId) → IsUnbrokenAfter shape run txn →
 
 -- after the run the transaction is no member, and a primary's log has a record that breaks it
 pub record IsBrokenAfter (shape : Shape) (run : Run) (txn : TxnId) : Type 0 where
-  pub session : IsOfSession txn
+  pub session : is_between 1 SESSIONS_MAX txn.session ≡ true
   pub outside : is_among txn (history_after shape run) ≡ false
   pub v : ℕ
   pub primary : ReplicaState

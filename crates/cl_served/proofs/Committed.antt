@@ -10,7 +10,8 @@ use Rattle.cl_serial.specs.Exchanges.{Exchange, outcome_of}
 use Rattle.cl_serial.specs.PlainMap.{Operation, operation_by, operation_in, operations}
 use Rattle.cl_serial.specs.Serial.{IsIn}
 use Rattle.cl_serial.specs.Transactions.{Transaction}
-use Rattle.cl_shown.specs.Sessions.{is_done_outcome, IsDone, HasEnded, IsGoingOn}
+use Rattle.cl_shown.specs.Sessions.{IsDone, HasEnded, IsGoingOn}
+use Rattle.cl_shown.specs.Done.{is_done_outcome}
 use Rattle.cl_types.specs.declared.answers.Outcome.{Outcome}
 use Rattle.cl_types.specs.declared.answers.Outcome.TheVariants.{Committed}
 use Rattle.cl_types.specs.declared.operations.Command.{Command}

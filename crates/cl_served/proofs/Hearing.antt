@@ -18,7 +18,7 @@ use Rattle.cl_serial.specs.Exchanges.{Exchange, answered as answered_by}
 use Rattle.cl_serial.specs.PlainMap.{Operation, operations, operation_in}
 use Rattle.cl_serial.specs.Transactions.{Session, commands_in, session_step}
 use Rattle.cl_serial.specs.Transcript.{TranscriptEntry}
-use Rattle.cl_shown.specs.Sessions.{is_done_outcome}
+use Rattle.cl_shown.specs.Done.{is_done_outcome}
 use Rattle.cl_steps.specs.declared.actors.TheConstants.{FRONT}
 use Rattle.cl_steps.specs.declared.steps.Outgoing.{Outgoing}
 use Rattle.cl_system.specs.Replicas.{ReplicaWorld, Mail, with_mail, with_way}

@@ -21,7 +21,8 @@ use Rattle.cl_serial.specs.Serial.{StandsAt, IsIn}
 use Rattle.cl_serial.specs.Transactions.{Session, Transaction, session_state, commands_of, commands_in}
 use Rattle.cl_serial.specs.Transcript.{TranscriptEntry}
 use Rattle.cl_shown.specs.Laws.{SessionHasOutstanding}
-use Rattle.cl_shown.specs.Sessions.{is_done_outcome, HasEnded, IsEnding, commits, aborts, IsGoingOn}
+use Rattle.cl_shown.specs.Sessions.{HasEnded, IsEnding, commits, aborts, IsGoingOn}
+use Rattle.cl_shown.specs.Done.{is_done_outcome}
 use Rattle.cl_shown.specs.Shown.{IsWellShown}
 use Rattle.cl_system.specs.Roles.{IsOfSession}
 use Rattle.cl_told.specs.Told.{told_session, pending, IsTold, IsToldOutstanding}

@@ -11,7 +11,7 @@ use Rattle.cl_serial.specs.Serial.{IsIn}
 use Rattle.cl_serial.specs.Transactions.{Session, Transaction, session_state, session_step, commands_in, is_begin}
 use Rattle.cl_serial.specs.Transcript.{TranscriptEntry, questions, answers}
 use Rattle.cl_shown.specs.Laws.{SessionHasOutstanding}
-use Rattle.cl_shown.specs.Sessions.{is_done_outcome}
+use Rattle.cl_shown.specs.Done.{is_done_outcome}
 use Rattle.cl_told.proofs.Turning.{same_session}
 use Rattle.cl_told.specs.Told.{told_session, pending}
 use Rattle.cl_types.specs.declared.answers.Outcome.{Outcome}

@@ -12,7 +12,7 @@ use Rattle.cl_serial.specs.PlainMap.{Operation, operations}
 use Rattle.cl_serial.specs.Transactions.{Session}
 use Rattle.cl_serial.specs.Exchanges.{pair_up}
 use Rattle.cl_serial.specs.Transcript.{TranscriptEntry, gather}
-use Rattle.cl_shown.specs.Sessions.{is_done_outcome}
+use Rattle.cl_shown.specs.Done.{is_done_outcome}
 use Rattle.cl_steps.specs.declared.actors.TheConstants.{FRONT}
 use Rattle.cl_steps.specs.declared.steps.Outgoing.{Outgoing}
 use Rattle.cl_steps.specs.Steps.{sent}

@@ -1,20 +1,16 @@
 -- What the ledger of a run and its transcript have to do with each other.
-use Rattle.std.specs.Prelude.{◌≡◌, List, ◌++◌, filter}
+use Rattle.std.specs.Prelude.{◌≡◌, List, ◌++◌}
 use Rattle.cl_order.specs.Ledger.{Ledger}
 use Rattle.cl_order.specs.Laws.{IsToldBy}
 use Rattle.cl_serial.specs.Exchanges.{Exchange}
-use Rattle.cl_serial.specs.PlainMap.{Operation, operations}
+use Rattle.cl_serial.specs.PlainMap.{Operation}
 use Rattle.cl_serial.specs.Serial.{IsIn}
 use Rattle.cl_serial.specs.Transactions.{commands_of}
 use Rattle.cl_serial.specs.Transcript.{TranscriptEntry}
-use Rattle.cl_shown.specs.Sessions.{is_done_outcome}
+use Rattle.cl_shown.specs.Done.{done_of}
 use Rattle.cl_system.specs.Roles.{IsOfSession}
 use Rattle.cl_types.specs.declared.operations.Command.TheVariants.{Work}
 use Rattle.cl_types.specs.declared.operations.TxnId.{TxnId}
-
--- the operations of a transaction that were answered with a reply, in order
-abbrev pub done_of : List TranscriptEntry → TxnId → List Operation
-done_of transcript txn = filter (λ operation. is_done_outcome operation.outcome) (operations (commands_of transcript txn))
 
 -- a line of the transaction asks for this operation
 pub record IsAsked (transcript : List TranscriptEntry) (txn : TxnId) (operation : Operation) : Type 0 where

@@ -25,7 +25,8 @@ use Rattle.cl_serial.specs.Transactions.{commands_of}
 use Rattle.cl_serial.specs.Transcript.{TranscriptEntry}
 use Rattle.cl_serial.proofs.Replayed.{RepliesAgree-front}
 use Rattle.cl_served.specs.Laws.{LedgersAreShown}
-use Rattle.cl_served.specs.Served.{done_of, IsLedgerShown}
+use Rattle.cl_served.specs.Served.{IsLedgerShown}
+use Rattle.cl_shown.specs.Done.{done_of}
 use Rattle.cl_shown.specs.Laws.{transcript_of_firm}
 use Rattle.cl_system.specs.Firm.{FirmEvent, firm_world_after, IsFirmRun}
 use Rattle.cl_settled.specs.Laws.{log_after, ReplicasAgree, HistoriesGoOn, LogsGoOn, UnbrokenReplay, BrokenStayOut}

@@ -6,7 +6,7 @@ use Rattle.cl_roster.specs.Roster.{IsClusterSize}
 use Rattle.cl_runs.specs.World.{Shape}
 use Rattle.cl_serial.specs.PlainMap.{RepliesAgree}
 use Rattle.cl_serial.specs.Serial.{values_after}
-use Rattle.cl_served.specs.Served.{done_of}
+use Rattle.cl_shown.specs.Done.{done_of}
 use Rattle.cl_shown.specs.Laws.{transcript_of_firm}
 use Rattle.cl_system.specs.Firm.{FirmEvent, firm_world_after, IsFirmRun, OfFirmRuns}
 use Rattle.cl_system.specs.Roles.{IsOfSession}

@@ -1,3 +1,4 @@
+pub mod Done
 pub mod Sessions
 pub mod Shown
 pub mod Laws

@@ -1,19 +1,15 @@
 -- The transactions of a session, as far as they were answered.
-use Rattle.std.specs.Prelude.{◌≡◌, ℕ, ◌<◌, ◌≤◌, Bool, true, false, List, [], ◌∷◌, ◌++◌, Option, Some, None}
+use Rattle.std.specs.Prelude.{◌≡◌, ℕ, ◌<◌, ◌≤◌, true, List, [], ◌∷◌, ◌++◌, Option, Some, None}
 use Rattle.std.specs.List.{AllByRecursion}
 use Rattle.std.specs.Option.{option_to_list}
 use Rattle.cl_serial.specs.Exchanges.{Exchange, outcome_of}
 use Rattle.cl_serial.specs.Serial.{StandsAt, IsIn}
 use Rattle.cl_serial.specs.Transactions.{Session, Transaction}
+use Rattle.cl_shown.specs.Done.{is_done_outcome}
 use Rattle.cl_types.specs.declared.answers.AbortCause.{AbortCause}
 use Rattle.cl_types.specs.declared.answers.Outcome.{Outcome}
-use Rattle.cl_types.specs.declared.answers.Outcome.TheVariants.{Done, Committed, Aborted}
+use Rattle.cl_types.specs.declared.answers.Outcome.TheVariants.{Committed, Aborted}
 use Rattle.cl_types.specs.declared.operations.Command.TheVariants.{Commit}
-
--- whether the outcome is the reply of an operation that was done
-abbrev pub is_done_outcome : Option Outcome → Bool
-is_done_outcome (Some (Done reply)) = true
-is_done_outcome other = false
 
 -- the command was done
 abbrev pub IsDone : Exchange → Type 0

@@ -2,7 +2,7 @@
 use Rattle.std.proofs.Common.{◌≡◌, ◌+◌, ℕ, ◌<◌, ◌==◌, Bool, is_some, inl, inr, List, [], ◌∷◌, ◌++◌, length, get_or, Option, None, IsSome, refl, sym, ap, subst, ◌∙◌, arith}
 use Rattle.std.proofs.lemmas.Bool.{and_parts}
 use Rattle.std.proofs.lemmas.List.{append-nil}
-use Rattle.cl_guarantee.specs.Laws.{RunsAreSerializable, ReplicasAgree, EachHasMembers, MembersHold, QuietMembersAreEqual, StandbysFollow, RunsNameTrueCauses, LinesAreFed, RestAnswersAll}
+use Rattle.cl_guarantee.specs.Laws.{RunsAreSerializable, ReplicasAgree, EachHasMembers, MembersHold, QuietMembersAreEqual, StandbysFollow, RunsNameTrueCauses, LinesAreFed, RestAnswersAll, HistoriesGoOn, LogsGoOn, RunsReplayUnbroken, RunsKeepBrokenOut}
 use Rattle.cl_members.specs.Members.{feeds_in, history_after, transcript_after}
 use Rattle.cl_node.specs.declared.machine.Node.{Node}
 use Rattle.cl_roster.specs.Roster.{IsClusterSize}
@@ -24,7 +24,7 @@ use Rattle.cl_world.specs.declared.kept.Kept.{Kept}
 use Rattle.cl_world.specs.declared.world.World.{World}
 use Rattle.clustra.specs.Answering.{HasMade, Served}
 use Rattle.clustra.specs.Run.{IsMade, always, cluster, full_text_with, texts_in}
-use Rattle.clustra.specs.RunEnds.{EndsSink, HasAllActors, IsGuaranteed, Ran}
+use Rattle.clustra.specs.RunEnds.{EndsSink, GoesOn, HasAllActors, IsGuaranteed, Ran}
 use Rattle.clustra.specs.declared.ended.TheConstants.{DONE}
 use Rattle.clustra.proofs.Feeds.{all_fed, first_feeds}
 use Rattle.clustra.proofs.Rests.{first_run, rests_after}
@@ -40,6 +40,10 @@ pub record RunLaws : Type 0 where
   pub causes : RunsNameTrueCauses
   pub fed : LinesAreFed
   pub rest : RestAnswersAll
+  pub histories : HistoriesGoOn
+  pub logs : LogsGoOn
+  pub unbroken : RunsReplayUnbroken
+  pub broken : RunsKeepBrokenOut
 
 -- the program's cluster is a lawful one
 pub lawful_size : IsClusterSize cluster.nodes cluster.spares
@@ -59,6 +63,17 @@ guaranteed laws run is =
       members = laws.members cluster run lawful_size wide;
       follow = laws.follow cluster run lawful_size wide;
       held = laws.held cluster run lawful_size wide;
+      unbroken = laws.unbroken cluster run lawful_size wide;
+    }
+
+-- a longer run keeps what the run has decided
+goes_on : RunLaws → (run more : Run) → IsRun (system cluster.nodes) cluster (run ++ more) → GoesOn cluster run more
+goes_on laws run more is =
+    let wide = runs_are_wide (system cluster.nodes) cluster (run ++ more) is in
+    record {
+      history = laws.histories cluster run more lawful_size wide;
+      logs = λ v before after. laws.logs cluster run more v before after lawful_size wide;
+      broken = laws.broken cluster run more lawful_size wide;
     }
 
 -- the lines that were fed are the first of those that were read
@@ -134,6 +149,8 @@ ran_of left_of source_faults written_of flushed_of sink_faults source source' si
           (subst (λ (all : Run). IsRun (system cluster.nodes) cluster all) split is_run));
       equal = λ first back split. laws.equal cluster first lawful_size
           (first_run cluster first back (subst (λ (all : Run). IsRun (system cluster.nodes) cluster all) split is_run));
+      goes_on = λ first more back split. goes_on laws first more (first_run cluster (first ++ more) back
+          (subst (λ (all : Run). IsRun (system cluster.nodes) cluster all) split is_run));
       causes = laws.causes cluster run lawful_size is_run;
       answered = λ done. subst (λ (t : List TranscriptEntry). EveryLineAnswered t) shown
           (answers_all laws setting status (texts_in served.read) run served.answered.unfinished is_run served.answered.made done);

@@ -3,7 +3,9 @@ use Rattle.std.specs.Prelude.{◌≡◌, ℕ, ◌<◌, ◌≤◌, ◌⊎◌, Boo
 use Rattle.std.specs.Io.KnownBytes.{IsAtEnd}
 use Rattle.cl_guarantee.specs.Causes.{TrueCauses}
 use Rattle.cl_guarantee.specs.Held.{AreHeldAfter, HaveMembers, LogsAreShared, MembersAreEqual}
+use Rattle.cl_guarantee.specs.Whole.{BrokenStaysOut, UnbrokenReplays}
 use Rattle.cl_io.specs.Faults.{one_more}
+use Rattle.cl_log.specs.LogEntry.{LogEntry}
 use Rattle.cl_members.specs.Members.{transcript_after, history_after, IsReplicaAfter}
 use Rattle.cl_runs.specs.World.{Shape, Run, world_after, IsQuiet, IsRun}
 use Rattle.cl_schedule.specs.declared.setting.Setting.{Setting}
@@ -12,6 +14,7 @@ use Rattle.cl_serial.specs.Transcript.{transcript_of}
 use Rattle.cl_settled.specs.Settled.{AgreesWithHistory}
 use Rattle.cl_system.specs.System.{system}
 use Rattle.cl_types.specs.AppendOnlyList.{entries}
+use Rattle.cl_types.specs.declared.operations.TxnId.{TxnId}
 use Rattle.cl_vnode.specs.Replica.{ReplicaState}
 use Rattle.cl_world.specs.Left.{IsKeptOf}
 use Rattle.cl_world.specs.declared.kept.Kept.{Kept}
@@ -50,6 +53,18 @@ pub record IsGuaranteed (shape : Shape) (run : Run) : Type 0 where
   pub members : HaveMembers shape run
   pub follow : LogsAreShared shape run
   pub held : AreHeldAfter shape run
+  -- what a transaction outside the history was answered fits the map after the history, unless something breaks the transaction
+  pub unbroken : UnbrokenReplays shape run
+
+-- a longer run keeps what the run has decided
+pub record GoesOn (shape : Shape) (run more : Run) : Type 0 where
+  -- its history begins with that of the run
+  pub history : (rest : List TxnId) × (history_after shape (run ++ more) ≡ history_after shape run ++ rest)
+  -- and so does the log of each virtual node
+  pub logs : (v : ℕ) (before after : ReplicaState) → IsReplicaAfter shape run v before → IsReplicaAfter shape (run ++ more) v after →
+      (rest : List LogEntry) × (after.part.log ≡ before.part.log ++ rest)
+  -- what something has broken stays out of the history
+  pub broken : BrokenStaysOut shape run more
 
 -- all actors are there
 pub record HasAllActors (kept : Kept) : Type 0 where
@@ -71,6 +86,8 @@ pub record Ran {S K : Type 0} (left_of : S → Option (List ℕ)) (source_faults
   -- at each quiet moment, whether it was noted or not, primary and standby of each virtual node were equal
   pub equal : (front back : Run) → run ≡ front ++ back →
       IsQuiet (system cluster.nodes) cluster (world_after (system cluster.nodes) cluster front) → MembersAreEqual cluster front
+  -- what was decided after a first part of the run stayed so
+  pub goes_on : (front more back : Run) → run ≡ (front ++ more) ++ back → GoesOn cluster front more
   -- each cause of an abort is true
   pub causes : TrueCauses cluster run
   -- a run that is done has answered every line
