@@ -17,6 +17,7 @@ use Rattle.cl_types.specs.declared.answers.Outcome.TheVariants.{Aborted}
 use Rattle.cl_types.specs.declared.operations.Command.TheVariants.{Work, Abort}
 use Rattle.cl_types.specs.declared.operations.Op.{Op}
 use Rattle.cl_types.specs.declared.operations.TxnId.{TxnId}
+use Rattle.cl_types.specs.Places.{Place}
 use Rattle.cl_wire.specs.Message.{Content, Ask, Answer, Outcome}
 use Rattle.cl_causes.proofs.Sessions.{Line, Begins, lines_of, works, works_begin}
 
@@ -57,54 +58,64 @@ pub record AsksBefore (transcript : List TranscriptEntry) (holder : TxnId) (tabl
   pub earlier : line < position
 
 -- the operation of this index was refused by another transaction
-pub record IsRefused (transcript : List TranscriptEntry) (name holder : TxnId) (index : ℕ) : Type 0 where
+pub record IsRefused (Held : TxnId → TxnId → Place → Op → ℕ → Type 0) (transcript : List TranscriptEntry) (name holder : TxnId) (index : ℕ) : Type 0 where
   pub another : holder ≢ name
   pub table : List ℕ
   pub key : List ℕ
   pub op : Op
   pub asked : IsAskedAt transcript name index table key op
+  pub held : Held name holder (table, key) op asked.line
   pub asks : AsksBefore transcript holder table key op (length transcript)
   pub unended : EndedQuietly transcript holder asked.line → ⊥
 
+-- what the one says of locks the other says too
+abbrev pub StayHeld : (TxnId → TxnId → Place → Op → ℕ → Type 0) → (TxnId → TxnId → Place → Op → ℕ → Type 0) → Type 0
+StayHeld Held Kept = (name holder : TxnId) (place : Place) (op : Op) (line : ℕ) → Held name holder place op line → Kept name holder place op line
+
+-- so it is at each position
+abbrev pub StayHeldAt : (TxnId → TxnId → Place → Op → ℕ → ℕ → Type 0) → (TxnId → TxnId → Place → Op → ℕ → ℕ → Type 0) → Type 0
+StayHeldAt Held Kept = (name holder : TxnId) (place : Place) (op : Op) (line position : ℕ) → Held name holder place op line position → Kept name holder place op line position
+
 -- a message says what is so
-abbrev pub Says : (TxnId → Type 0) → List TranscriptEntry → Content → Type 0
-Says Short transcript (Ask v txn number table key op) = IsAskedAt transcript txn (number - 1) table key op
-Says Short transcript (Answer v txn number (answer.Refused holder)) = IsRefused transcript txn holder (number - 1)
-Says Short transcript (Answer v txn number answer.NoMemory) = Short txn
-Says Short transcript (Outcome txn number (Aborted (Conflict holder))) = IsRefused transcript txn holder (number - 1)
-Says Short transcript (Outcome txn number (Aborted Memory)) = Short txn
-Says Short transcript content = Unit {0}
+abbrev pub Says : (TxnId → Type 0) → (TxnId → TxnId → Place → Op → ℕ → Type 0) → List TranscriptEntry → Content → Type 0
+Says Short Held transcript (Ask v txn number table key op) = IsAskedAt transcript txn (number - 1) table key op
+Says Short Held transcript (Answer v txn number (answer.Refused holder)) = IsRefused Held transcript txn holder (number - 1)
+Says Short Held transcript (Answer v txn number answer.NoMemory) = Short txn
+Says Short Held transcript (Outcome txn number (Aborted (Conflict holder))) = IsRefused Held transcript txn holder (number - 1)
+Says Short Held transcript (Outcome txn number (Aborted Memory)) = Short txn
+Says Short Held transcript content = Unit {0}
 
 -- a reply names a true cause: the exchange was refused
-pub record IsRefusedReply (transcript : List TranscriptEntry) (name holder : TxnId) (asked : Exchange) (position : ℕ) : Type 0 where
+pub record IsRefusedReply (Held : TxnId → TxnId → Place → Op → ℕ → ℕ → Type 0) (transcript : List TranscriptEntry) (name holder : TxnId) (asked : Exchange) (position : ℕ) : Type 0 where
   pub another : holder ≢ name
   pub table : List ℕ
   pub key : List ℕ
   pub op : Op
   pub operates : asked.command ≡ Work table key op
+  pub held : Held name holder (table, key) op asked.line position
   pub within : asked.line ≤ length transcript
   pub asks : AsksBefore transcript holder table key op position
   pub unended : EndedQuietly transcript holder asked.line → ⊥
 
 -- a reply names a true cause
-abbrev pub IsCause : (TxnId → ℕ → Type 0) → List TranscriptEntry → TxnId → Exchange → ℕ → AbortCause → Type 0
-IsCause Short transcript name asked position (Conflict holder) = IsRefusedReply transcript name holder asked position
-IsCause Short transcript name asked position (Node node) = ⊥
-IsCause Short transcript name asked position Client = asked.command ≡ Abort
-IsCause Short transcript name asked position Memory = IsOperation asked.command × Short name position
+abbrev pub IsCause : (TxnId → ℕ → Type 0) → (TxnId → TxnId → Place → Op → ℕ → ℕ → Type 0) → List TranscriptEntry → TxnId → Exchange → ℕ → AbortCause → Type 0
+IsCause Short Held transcript name asked position (Conflict holder) = IsRefusedReply Held transcript name holder asked position
+IsCause Short Held transcript name asked position (Node node) = ⊥
+IsCause Short Held transcript name asked position Client = asked.command ≡ Abort
+IsCause Short Held transcript name asked position Memory = IsOperation asked.command × Short name position
 
 -- a reply of this session has its exchange, and its cause
-pub record IsCaused (Short : TxnId → ℕ → Type 0) (transcript : List TranscriptEntry) (session position : ℕ) (cause : AbortCause) : Type 0 where
+pub record IsCaused (Short : TxnId → ℕ → Type 0) (Held : TxnId → TxnId → Place → Op → ℕ → ℕ → Type 0) (transcript : List TranscriptEntry) (session position : ℕ) (cause : AbortCause) : Type 0 where
   pub number : ℕ
   pub asked : Exchange
   pub of : IsOfSession (record { session = session; number = number })
   pub is_in : IsIn (commands_of transcript (record { session = session; number = number })) asked
   pub answered : asked.answer ≡ Some (Aborted cause, position)
-  pub caused : IsCause Short transcript (record { session = session; number = number }) asked position cause
+  pub caused : IsCause Short Held transcript (record { session = session; number = number }) asked position cause
 
 -- each reply of a transcript has
-abbrev pub AreCaused : (TxnId → ℕ → Type 0) → List TranscriptEntry → Type 0
-AreCaused Short transcript = (session position : ℕ) (cause : AbortCause) → StandsAt transcript position (written (out.Answer session (Aborted cause))) → IsCaused Short transcript session position cause
+abbrev pub AreCaused : (TxnId → ℕ → Type 0) → (TxnId → TxnId → Place → Op → ℕ → ℕ → Type 0) → List TranscriptEntry → Type 0
+AreCaused Short Held transcript = (session position : ℕ) (cause : AbortCause) → StandsAt transcript position (written (out.Answer session (Aborted cause))) → IsCaused Short Held transcript session position cause
 
 -- ---- a longer list
 
@@ -155,47 +166,52 @@ module _ (old new : List TranscriptEntry) (grows : Grows old new) where
     earlier = let e = h.earlier in omega (arith, e, far);
   }
 
-  refused_stays : (name holder : TxnId) (index : ℕ) → IsRefused old name holder index → IsRefused new name holder index
+  refused_stays : (Held Kept : TxnId → TxnId → Place → Op → ℕ → Type 0) → StayHeld Held Kept → (name holder : TxnId) (index : ℕ) → IsRefused Held old name holder index →
+      IsRefused Kept new name holder index
   unfolding asked_stays
-  refused_stays name holder index h = record {
+  refused_stays Held Kept kept name holder index h = record {
     another = h.another;
     table = h.table;
     key = h.key;
     op = h.op;
     asked = asked_stays name index h.table h.key h.op h.asked;
+    held = kept name holder (h.table, h.key) h.op h.asked.line h.held;
     asks = asks_stay holder h.table h.key h.op (length old) (length new) longer h.asks;
     unended = λ ended. h.unended (ended_before holder h.asked.line (let b = h.asked.below in omega (arith, b)) ended);
   }
 
-  pub says_stay : (Short More : TxnId → Type 0) → ((name : TxnId) → Short name → More name) → (content : Content) → Says Short old content → Says More new content
-  says_stay Short More short (Ask v txn number table key op) h = asked_stays txn (number - 1) table key op h
-  says_stay Short More short (Answer v txn number (answer.Refused holder)) h = refused_stays txn holder (number - 1) h
-  says_stay Short More short (Answer v txn number answer.NoMemory) h = short txn h
-  says_stay Short More short (Answer v txn number (answer.Done reply)) h = tt
-  says_stay Short More short (Outcome txn number (Aborted (Conflict holder))) h = refused_stays txn holder (number - 1) h
-  says_stay Short More short (Outcome txn number (Aborted Memory)) h = short txn h
-  says_stay Short More short content h = tt
+  pub says_stay : (Short More : TxnId → Type 0) → ((name : TxnId) → Short name → More name) → (Held Kept : TxnId → TxnId → Place → Op → ℕ → Type 0) → StayHeld Held Kept →
+      (content : Content) → Says Short Held old content → Says More Kept new content
+  says_stay Short More short Held Kept kept (Ask v txn number table key op) h = asked_stays txn (number - 1) table key op h
+  says_stay Short More short Held Kept kept (Answer v txn number (answer.Refused holder)) h = refused_stays Held Kept kept txn holder (number - 1) h
+  says_stay Short More short Held Kept kept (Answer v txn number answer.NoMemory) h = short txn h
+  says_stay Short More short Held Kept kept (Answer v txn number (answer.Done reply)) h = tt
+  says_stay Short More short Held Kept kept (Outcome txn number (Aborted (Conflict holder))) h = refused_stays Held Kept kept txn holder (number - 1) h
+  says_stay Short More short Held Kept kept (Outcome txn number (Aborted Memory)) h = short txn h
+  says_stay Short More short Held Kept kept content h = tt
 
   cause_stays : (Short More : TxnId → ℕ → Type 0) → ((name : TxnId) (position : ℕ) → Short name position → More name position) →
-      (name : TxnId) (asked : Exchange) (position : ℕ) (cause : AbortCause) →
-      IsCause Short old name asked position cause → IsCause More new name asked position cause
-  cause_stays Short More short name asked position (Conflict holder) h = record {
+      (Held Kept : TxnId → TxnId → Place → Op → ℕ → ℕ → Type 0) → StayHeldAt Held Kept → (name : TxnId) (asked : Exchange) (position : ℕ) (cause : AbortCause) →
+      IsCause Short Held old name asked position cause → IsCause More Kept new name asked position cause
+  cause_stays Short More short Held Kept kept name asked position (Conflict holder) h = record {
     another = h.another;
     table = h.table;
     key = h.key;
     op = h.op;
     operates = h.operates;
+    held = kept name holder (h.table, h.key) h.op asked.line position h.held;
     within = let l = longer in let w = h.within in omega (arith, l, w);
     asks = asks_stay holder h.table h.key h.op position position (omega arith) h.asks;
     unended = λ ended. h.unended (ended_before holder asked.line h.within ended);
   }
-  cause_stays Short More short name asked position (Node node) h = h
-  cause_stays Short More short name asked position Client h = h
-  cause_stays Short More short name asked position Memory h = (h.0, short name position h.1)
+  cause_stays Short More short Held Kept kept name asked position (Node node) h = h
+  cause_stays Short More short Held Kept kept name asked position Client h = h
+  cause_stays Short More short Held Kept kept name asked position Memory h = (h.0, short name position h.1)
 
-  pub caused_stays : (Short More : TxnId → ℕ → Type 0) → ((name : TxnId) (position : ℕ) → Short name position → More name position) → (session position : ℕ) (cause : AbortCause) →
-      IsCaused Short old session position cause → IsCaused More new session position cause
-  caused_stays Short More short session position cause h =
+  pub caused_stays : (Short More : TxnId → ℕ → Type 0) → ((name : TxnId) (position : ℕ) → Short name position → More name position) →
+      (Held Kept : TxnId → TxnId → Place → Op → ℕ → ℕ → Type 0) → StayHeldAt Held Kept → (session position : ℕ) (cause : AbortCause) →
+      IsCaused Short Held old session position cause → IsCaused More Kept new session position cause
+  caused_stays Short More short Held Kept kept session position cause h =
       let name : TxnId = record { session = session; number = h.number } in
       record {
         number = h.number;
@@ -203,5 +219,5 @@ module _ (old new : List TranscriptEntry) (grows : Grows old new) where
         of = h.of;
         is_in = grows.kept name h.of h.asked (Aborted cause, position) h.is_in h.answered;
         answered = h.answered;
-        caused = cause_stays Short More short name h.asked position cause h.caused;
+        caused = cause_stays Short More short Held Kept kept name h.asked position cause h.caused;
       }

@@ -28,10 +28,11 @@ use Rattle.cl_types.specs.declared.operations.Command.{Command as ClientCommand}
 use Rattle.cl_types.specs.declared.operations.Command.TheVariants.{Begin, Work, Commit, Abort}
 use Rattle.cl_types.specs.declared.operations.Op.{Op}
 use Rattle.cl_types.specs.declared.operations.TxnId.{TxnId}
+use Rattle.cl_types.specs.Places.{Place}
 use Rattle.cl_wire.specs.Message.{Content, Command, Outcome}
 use Rattle.cl_causes.proofs.Sessions.{Line, works, is_operation}
 use Rattle.cl_causes.proofs.Transcripts.{left_in}
-use Rattle.cl_causes.proofs.Claims.{lines_in, Grows, IsAskedAt, EndedQuietly, IsRefused, Says, IsRefusedReply, IsCause, IsCaused, longer, ended_before, asks_stay}
+use Rattle.cl_causes.proofs.Claims.{lines_in, Grows, IsAskedAt, EndedQuietly, IsRefused, StayHeld, Says, IsRefusedReply, IsCause, IsCaused, longer, ended_before, asks_stay}
 use Rattle.cl_causes.proofs.Outstanding.{first_left, IsOutstanding, stands_last, works_length, outstanding_within, reply_is_in}
 
 abbrev txn_of : TxnId → Content → TxnId
@@ -116,14 +117,16 @@ module _ (shape : Shape) (world : ReplicaWorld) (sound : IsSoundWorld shape worl
 
   module _ (number : ℕ) (cause : AbortCause) (more : List TranscriptEntry) (grows : Grows transcript (transcript ++ written (out.Answer txn.session (Aborted cause)) ∷ more))
       (few : length (answers txn.session (transcript ++ written (out.Answer txn.session (Aborted cause)) ∷ more)) ≤ length (questions txn.session (transcript ++ written (out.Answer txn.session (Aborted cause)) ∷ more)))
-      (Now : TxnId → Type 0) (Short : TxnId → ℕ → Type 0) (short : Now txn → Short txn (length transcript)) where
+      (Now : TxnId → Type 0) (Short : TxnId → ℕ → Type 0) (short : Now txn → Short txn (length transcript))
+      (Holding : TxnId → TxnId → Place → Op → ℕ → Type 0) (Held : TxnId → TxnId → Place → Op → ℕ → ℕ → Type 0)
+      (held : StayHeld Holding (λ name holder place op line. Held name holder place op line (length transcript))) where
     abbrev after : List TranscriptEntry
     after = transcript ++ written (out.Answer txn.session (Aborted cause)) ∷ more
 
     -- the reply of the outstanding command is in its transaction
     caused_by : (q : Line) (transaction : Transaction) → IsOutstanding transcript txn q transaction →
-        IsCause Short after txn (answered q (Aborted cause, length transcript)) (length transcript) cause →
-        IsCaused Short after txn.session (length transcript) cause
+        IsCause Short Held after txn (answered q (Aborted cause, length transcript)) (length transcript) cause →
+        IsCaused Short Held after txn.session (length transcript) cause
     caused_by q transaction whole caused = record {
       number = txn.number;
       asked = answered q (Aborted cause, length transcript);
@@ -135,7 +138,7 @@ module _ (shape : Shape) (world : ReplicaWorld) (sound : IsSoundWorld shape worl
 
     refused_reply : (holder : TxnId) (q : Line) (transaction : Transaction) → IsOutstanding transcript txn q transaction → is_operation q.0 ≡ true →
         length (operations transaction.commands) ≡ number - 1 →
-        IsRefused transcript txn holder (number - 1) → IsRefusedReply after txn holder (answered q (Aborted cause, length transcript)) (length transcript)
+        IsRefused Holding transcript txn holder (number - 1) → IsRefusedReply Held after txn holder (answered q (Aborted cause, length transcript)) (length transcript)
     refused_reply holder q transaction whole is_work index refused =
         let stands : StandsAt (works (lines_in transcript txn)) (number - 1) q = subst (λ n. StandsAt (works (lines_in transcript txn)) n q) index (stands_last outstanding transcript txn q transaction whole is_work) in
         let same : q ≡ (Work refused.table refused.key refused.op, refused.asked.line) = StandsAt-one (works (lines_in transcript txn)) (number - 1) q _ stands refused.asked.stands in
@@ -147,6 +150,8 @@ module _ (shape : Shape) (world : ReplicaWorld) (sound : IsSoundWorld shape worl
           key = refused.key;
           op = refused.op;
           operates = ap (λ (l : Line). l.0) same;
+          held = subst (λ n. Held txn holder (refused.table, refused.key) refused.op n (length transcript)) (sym line)
+              (held txn holder (refused.table, refused.key) refused.op refused.asked.line refused.held);
           within = let l = longer transcript after grows in omega (arith, l, below);
           asks = asks_stay transcript after grows holder refused.table refused.key refused.op (length transcript) (length transcript) (omega arith) refused.asks;
           unended = λ ended. refused.unended (subst (EndedQuietly transcript holder) line (ended_before transcript after grows holder q.1 (omega (arith, below)) ended));
@@ -155,7 +160,7 @@ module _ (shape : Shape) (world : ReplicaWorld) (sound : IsSoundWorld shape worl
     -- by what it answers
     caused_as : (current : Current) (what : ClientCommand) → number ≡ current.commands → current.operations ≤ current.commands →
         txn ≡ last_begun txn.session view.session → pending txn.session transcript ≡ what ∷ view.session.waiting →
-        IsToldOutstanding so_far view.session current what → (why : AbortCause) → cause ≡ why → IsOutcomeOf what (Aborted why) → Says Now transcript (Outcome txn number (Aborted why)) → IsCaused Short after txn.session (length transcript) cause
+        IsToldOutstanding so_far view.session current what → (why : AbortCause) → cause ≡ why → IsOutcomeOf what (Aborted why) → Says Now Holding transcript (Outcome txn number (Aborted why)) → IsCaused Short Held after txn.session (length transcript) cause
     caused_as current (Work table key op) numbered fits named left is (Conflict holder) same goes says =
         let first = first_left (left_in txn.session transcript) (Work table key op) view.session.waiting left in
         let q : Line = (Work table key op, first.0) in
@@ -163,17 +168,17 @@ module _ (shape : Shape) (world : ReplicaWorld) (sound : IsSoundWorld shape worl
         let all = works_length outstanding transcript txn q is.0 whole refl in
         let below : number - 1 < length (operations is.0.commands) + 1 = subst (λ n. number - 1 < n) all (StandsAt-within (works (lines_in transcript txn)) (number - 1) _ says.asked.stands) in
         let index : length (operations is.0.commands) ≡ number - 1 = (let count = is.3.count in let more = is.2 in omega (arith, count, more, numbered, fits, below)) in
-        caused_by q is.0 whole (subst (λ c. IsCause Short after txn (answered q (Aborted cause, length transcript)) (length transcript) c) (sym same) (refused_reply holder q is.0 whole refl index says))
+        caused_by q is.0 whole (subst (λ c. IsCause Short Held after txn (answered q (Aborted cause, length transcript)) (length transcript) c) (sym same) (refused_reply holder q is.0 whole refl index says))
     caused_as current (Work table key op) numbered fits named left is Memory same goes says =
         let first = first_left (left_in txn.session transcript) (Work table key op) view.session.waiting left in
         let q : Line = (Work table key op, first.0) in
-        caused_by q is.0 (outstanding_of q first.1 is.0 is.1 first.2 named is.3) (subst (λ c. IsCause Short after txn (answered q (Aborted cause, length transcript)) (length transcript) c) (sym same) (cc, short says))
+        caused_by q is.0 (outstanding_of q first.1 is.0 is.1 first.2 named is.3) (subst (λ c. IsCause Short Held after txn (answered q (Aborted cause, length transcript)) (length transcript) c) (sym same) (cc, short says))
     caused_as current (Work table key op) numbered fits named left is (Node node) same goes says = absurd goes
     caused_as current (Work table key op) numbered fits named left is Client same goes says = absurd goes
     caused_as current Abort numbered fits named left is Client same goes says =
         let first = first_left (left_in txn.session transcript) Abort view.session.waiting left in
         let q : Line = (Abort, first.0) in
-        caused_by q is.0 (outstanding_of q first.1 is.0 current.operations first.2 named is.1) (subst (λ c. IsCause Short after txn (answered q (Aborted cause, length transcript)) (length transcript) c) (sym same) refl)
+        caused_by q is.0 (outstanding_of q first.1 is.0 current.operations first.2 named is.1) (subst (λ c. IsCause Short Held after txn (answered q (Aborted cause, length transcript)) (length transcript) c) (sym same) refl)
     caused_as current Abort numbered fits named left is (Conflict holder) same goes says = absurd goes
     caused_as current Abort numbered fits named left is (Node node) same goes says = absurd goes
     caused_as current Abort numbered fits named left is Memory same goes says = absurd goes
@@ -181,7 +186,7 @@ module _ (shape : Shape) (world : ReplicaWorld) (sound : IsSoundWorld shape worl
     caused_as current Commit numbered fits named left is why same goes says = absurd goes
 
     pub outcome_caused : ((current : Current) → view.session.current ≡ Some current → current.operations ≤ current.commands) → (rest : List Content) →
-        world.mail (txn.session % shape.nodes) FRONT ≡ Outcome txn number (Aborted cause) ∷ rest → Says Now transcript (Outcome txn number (Aborted cause)) → IsCaused Short after txn.session (length transcript) cause
+        world.mail (txn.session % shape.nodes) FRONT ≡ Outcome txn number (Aborted cause) ∷ rest → Says Now Holding transcript (Outcome txn number (Aborted cause)) → IsCaused Short Held after txn.session (length transcript) cause
     outcome_caused fits rest waits says =
         let between = session_between txn of in
         let stage = sound.stages txn.session between.0 between.1 in
@@ -192,7 +197,7 @@ module _ (shape : Shape) (world : ReplicaWorld) (sound : IsSoundWorld shape worl
         by is.current is.outcome is.entries is.at (sym (ap (outcome_of (Aborted cause)) is.same)) (ap (number_of number) is.same) (ap (txn_of txn) is.same)
       where
         by : (current : Current) (outcome : CommandOutcome) (entries : _) → IsTelling txn.session view current outcome entries → outcome ≡ Aborted cause → number ≡ current.commands →
-            txn ≡ last_begun txn.session view.session → IsCaused Short after txn.session (length transcript) cause
+            txn ≡ last_begun txn.session view.session → IsCaused Short Held after txn.session (length transcript) cause
         by current outcome entries at same numbered named =
             let at_abort : IsTelling txn.session view current (Aborted cause) entries = subst (λ o. IsTelling txn.session view current o entries) same at in
             let between = session_between txn of in

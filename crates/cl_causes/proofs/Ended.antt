@@ -15,7 +15,9 @@ use Rattle.cl_told.specs.Told.{told_session, answered_part}
 use Rattle.cl_types.specs.declared.answers.AbortCause.{AbortCause}
 use Rattle.cl_types.specs.declared.answers.AbortCause.TheVariants.{Conflict, Node, Client, Memory}
 use Rattle.cl_types.specs.declared.operations.Command.TheVariants.{Work}
+use Rattle.cl_types.specs.declared.operations.Op.{Op}
 use Rattle.cl_types.specs.declared.operations.TxnId.{TxnId}
+use Rattle.cl_types.specs.Places.{Place}
 use Rattle.cl_causes.proofs.Sessions.{Line, line_of, lines_of, commands_at, commands_found, none_ends, ended_where_ends}
 use Rattle.cl_causes.proofs.Transcripts.{new_questions, new_answers, new_answer_behind, left_in, new_pairs, told_more, paired_answer, answered_told}
 use Rattle.cl_causes.proofs.Claims.{EndedQuietly, IsRefusedReply, IsCause, IsCaused, AreCaused}
@@ -62,8 +64,9 @@ module _ (outstanding : SessionHasOutstanding) (transcript : List TranscriptEntr
                 absurd (omega (arith, behind, size, later)))
           ]
 
-  conflict_of : (name holder : TxnId) (asked : Exchange) (position : ℕ) → IsRefusedReply transcript name holder asked position → IsConflict transcript name holder asked position
-  conflict_of name holder asked position h =
+  conflict_of : (Held : TxnId → TxnId → Place → Op → ℕ → ℕ → Type 0) (name holder : TxnId) (asked : Exchange) (position : ℕ) → IsRefusedReply Held transcript name holder asked position →
+      IsConflict transcript Held name holder asked position
+  conflict_of Held name holder asked position h =
       let found = line_stands (commands_of transcript holder) h.asks.asks.0 (Work h.table h.key h.asks.other, h.asks.line) h.asks.asks.1 in
       let line : found.0.line ≡ h.asks.line = ap (λ (l : Line). l.1) found.2 in
       record {
@@ -72,6 +75,7 @@ module _ (outstanding : SessionHasOutstanding) (transcript : List TranscriptEntr
         key = h.key;
         op = h.op;
         operates = h.operates;
+        held = h.held;
         conflicting = record {
           exchange = found.0;
           other = h.asks.other;
@@ -84,18 +88,18 @@ module _ (outstanding : SessionHasOutstanding) (transcript : List TranscriptEntr
       }
 
 -- each reply names a true cause
-module _ (Short : TxnId → ℕ → Type 0) (outstanding : SessionHasOutstanding) (transcript : List TranscriptEntry)
+module _ (Short : TxnId → ℕ → Type 0) (Held : TxnId → TxnId → Place → Op → ℕ → ℕ → Type 0) (outstanding : SessionHasOutstanding) (transcript : List TranscriptEntry)
     (few : (s : ℕ) → length (answers s transcript) ≤ length (questions s transcript))
     (quiet_few : (p : ℕ) → StandsAt transcript p quiet → (name : TxnId) → IsOfSession name →
     length (answers name.session (take p transcript)) ≤ length (questions name.session (take p transcript))) where
-  true_cause : (name : TxnId) (asked : Exchange) (position : ℕ) (cause : AbortCause) → IsCause Short transcript name asked position cause →
-      IsTrueCause transcript Short name asked position cause
-  true_cause name asked position (Conflict holder) h = conflict_of outstanding transcript few quiet_few name holder asked position h
+  true_cause : (name : TxnId) (asked : Exchange) (position : ℕ) (cause : AbortCause) → IsCause Short Held transcript name asked position cause →
+      IsTrueCause transcript Short Held name asked position cause
+  true_cause name asked position (Conflict holder) h = conflict_of outstanding transcript few quiet_few Held name holder asked position h
   true_cause name asked position (Node node) h = h
   true_cause name asked position Client h = h
   true_cause name asked position Memory h = h
 
-  pub true_causes : AreCaused Short transcript → TrueCauses transcript Short
+  pub true_causes : AreCaused Short Held transcript → TrueCauses transcript Short Held
   true_causes caused session position cause h =
-      let is : IsCaused Short transcript session position cause = caused session position cause h in
+      let is : IsCaused Short Held transcript session position cause = caused session position cause h in
       (is.number, is.asked, is.is_in, is.answered, true_cause (record { session = session; number = is.number }) is.asked position cause is.caused)

@@ -1,5 +1,5 @@
 -- One event: each message on its way still says what is so, each reply still has its cause, and who had ended quietly is still gone.
-use Rattle.std.proofs.Common.{◌≡◌, ◌≢◌, ℕ, zero, suc, ◌+◌, ◌%◌, ◌<◌, ◌≤◌, Bool, true, false, cond, eqb, ◌⊎◌, inl, inr, List, [], ◌∷◌, ◌++◌, length, take, All, refl, sym, ap, ◌∙◌, subst, subst₂, arith}
+use Rattle.std.proofs.Common.{◌≡◌, ◌≢◌, ℕ, zero, suc, ◌+◌, ◌-◌, ◌%◌, ◌<◌, ◌≤◌, Bool, true, false, cond, eqb, ◌⊎◌, inl, inr, List, [], ◌∷◌, ◌++◌, length, take, Some, All, refl, sym, ap, ◌∙◌, subst, subst₂, arith}
 use Rattle.std.proofs.lemmas.Bool.{cases_eq, ne_eqb, eq-eqb, cond_both, false≢true}
 use Rattle.std.proofs.lemmas.List.{append-nil}
 use Rattle.std.proofs.lemmas.List.Elements.{All-nil, All-head, All-weaker}
@@ -10,9 +10,11 @@ use Rattle.cl_exchange.proofs.Events.{session_between}
 use Rattle.cl_exchange.proofs.Runs.{first_addressed}
 use Rattle.cl_front.specs.Front.{delivered_front, fed_front}
 use Rattle.cl_ledger.specs.Ledgers.{IsLedgerOf}
+use Rattle.cl_locks.specs.Grants.{first_conflict}
 use Rattle.cl_lines.specs.declared.out.Out.TheVariants as out
 use Rattle.cl_lone.specs.Lone.{lone_step}
 use Rattle.cl_order.specs.Ledger.{Ledger}
+use Rattle.cl_order.specs.Operations.{mode_of}
 use Rattle.cl_part.specs.Calls.{answer_to}
 use Rattle.cl_roster.specs.Roster.{IsClusterSize}
 use Rattle.cl_runs.specs.Queues.{QueueEvent, deliver, take_line, quieten, nothing}
@@ -32,12 +34,15 @@ use Rattle.cl_types.proofs.PlacementLaws.{node_count-bounds, node_count-some}
 use Rattle.cl_types.specs.declared.answers.AbortCause.{AbortCause}
 use Rattle.cl_types.specs.declared.answers.Outcome.TheVariants.{Aborted}
 use Rattle.cl_types.specs.declared.operations.Command.TheVariants.{Begin, Work, Commit, Abort}
+use Rattle.cl_types.specs.declared.operations.Op.{Op}
 use Rattle.cl_types.specs.declared.operations.TxnId.{TxnId}
+use Rattle.cl_types.specs.Placement.{virtual_node_of}
+use Rattle.cl_types.specs.Places.{Place}
 use Rattle.cl_vnode.specs.Replica.{ReplicaState}
 use Rattle.cl_wire.specs.Message.{Content, Command, Outcome, Ask, Answer}
 use Rattle.cl_causes.proofs.Sessions.{begins_itself, ended_grow}
 use Rattle.cl_causes.proofs.Transcripts.{new_pairs, told_more}
-use Rattle.cl_causes.proofs.Claims.{lines_in, Grows, Says, IsCaused, AreCaused, longer, says_stay, caused_stays, take-before}
+use Rattle.cl_causes.proofs.Claims.{lines_in, Grows, IsAskedAt, StayHeld, StayHeldAt, Says, IsCaused, AreCaused, longer, says_stay, caused_stays, take-before}
 use Rattle.cl_causes.proofs.Commands.{command_asked, outcome_caused}
 use Rattle.cl_causes.proofs.Entries.{ArePlain, plain_at, AddsEntries, plain, replied, noted, event_adds}
 use Rattle.cl_causes.proofs.Gone.{IsGone, gone_not_open, reorder_gone, gone_when_quiet, stays_gone}
@@ -63,12 +68,16 @@ take-whole : {X : Type 0} (xs : List X) → take (length xs) xs ≡ xs
 take-whole [] = refl
 take-whole (x ∷ xs) = ap (λ list. x ∷ list) (take-whole xs)
 
+-- what is said of locks at a position
+abbrev pub held_at : (TxnId → TxnId → Place → Op → ℕ → ℕ → Type 0) → ℕ → TxnId → TxnId → Place → Op → ℕ → Type 0
+held_at Held position name holder place op line = Held name holder place op line position
+
 -- what holds between two events
-pub record IsCausedWorld (shape : Shape) (Short : TxnId → ℕ → Type 0) (world : ReplicaWorld) : Type 0 where
+pub record IsCausedWorld (shape : Shape) (Short : TxnId → ℕ → Type 0) (Held : TxnId → TxnId → Place → Op → ℕ → ℕ → Type 0) (world : ReplicaWorld) : Type 0 where
   -- each reply ABORTED has its cause
-  pub replies : AreCaused Short world.front.transcript
+  pub replies : AreCaused Short Held world.front.transcript
   -- each message says what is so
-  pub says : (from to : ℕ) → All (Says (λ name. Short name (length world.front.transcript)) world.front.transcript) (world.mail from to)
+  pub says : (from to : ℕ) → All (Says (λ name. Short name (length world.front.transcript)) (held_at Held (length world.front.transcript)) world.front.transcript) (world.mail from to)
   -- at a quiet moment each answer had its command
   pub few : (p : ℕ) → StandsAt world.front.transcript p quiet → (name : TxnId) → IsOfSession name →
       length (answers name.session (take p world.front.transcript)) ≤ length (questions name.session (take p world.front.transcript))
@@ -88,8 +97,13 @@ module _ (shape : Shape) (size : IsClusterSize shape.nodes shape.spares) (state 
     (Short More : TxnId → ℕ → Type 0) (keeps : (name : TxnId) (p q : ℕ) → p ≤ q → Short name p → More name q)
     (shorts : (from to : ℕ) (content : Content) (rest : List Content) (name : TxnId) → event ≡ deliver from to true →
     state.world.mail from to ≡ content ∷ rest → IsAskOf name content → More name (length (after_replica_event shape state.world event).front.transcript))
+    (Held Kept : TxnId → TxnId → Place → Op → ℕ → ℕ → Type 0) (kept : (p q : ℕ) → p ≤ q → StayHeld (held_at Held p) (held_at Kept q))
+    (refuses : (from to number : ℕ) (txn holder : TxnId) (table key : List ℕ) (op : Op) (line : ℕ) (rest : List Content) → event ≡ deliver from to false →
+    state.world.mail from to ≡ Ask to txn number table key op ∷ rest → to ≡ virtual_node_of key shape.nodes → line < length state.world.front.transcript →
+    first_conflict (state.world.replicas to).part.grants txn (table, key) (mode_of op) ≡ Some holder →
+    Kept txn holder (table, key) op line (length (after_replica_event shape state.world event).front.transcript))
     (empties : event ≡ quieten → (from to : ℕ) → state.world.mail from to ≡ [])
-    (so : IsCausedWorld shape Short state.world) where
+    (so : IsCausedWorld shape Short Held state.world) where
   abbrev world : ReplicaWorld
   world = state.world
 
@@ -129,31 +143,42 @@ module _ (shape : Shape) (size : IsClusterSize shape.nodes shape.spares) (state 
   abbrev Then : TxnId → Type 0
   Then name = More name (length new)
 
-  stay : (content : Content) → Says Now old content → Says Then new content
-  stay content h = says_stay old new grown Now Then (λ name short. keeps name (length old) (length new) (longer old new grown) short) content h
+  abbrev NowHeld : TxnId → TxnId → Place → Op → ℕ → Type 0
+  NowHeld = held_at Held (length old)
+
+  abbrev ThenHeld : TxnId → TxnId → Place → Op → ℕ → Type 0
+  ThenHeld = held_at Kept (length new)
+
+  short_stays : (name : TxnId) → Now name → Then name
+  short_stays name short = keeps name (length old) (length new) (longer old new grown) short
+
+  stay : (content : Content) → Says Now NowHeld old content → Says Then ThenHeld new content
+  stay content h = says_stay old new grown Now Then short_stays NowHeld ThenHeld (kept (length old) (length new) (longer old new grown)) content h
 
   -- ---- replies
 
-  old_reply : (session position : ℕ) (cause : AbortCause) → StandsAt old position (written (out.Answer session (Aborted cause))) → IsCaused More new session position cause
-  old_reply session position cause h = caused_stays old new grown Short More (λ name p short. keeps name p p (omega arith) short) session position cause (so.replies session position cause h)
+  old_reply : (session position : ℕ) (cause : AbortCause) → StandsAt old position (written (out.Answer session (Aborted cause))) → IsCaused More Kept new session position cause
+  old_reply session position cause h = caused_stays old new grown Short More (λ name p short. keeps name p p (omega arith) short) Held Kept
+      (λ name holder place op line p held. kept p p (omega arith) name holder place op line held) session position cause (so.replies session position cause h)
 
   new_reply : (from : ℕ) (txn : TxnId) (number : ℕ) (cause : AbortCause) (rest : List Content) (more : List TranscriptEntry) →
       world.mail from FRONT ≡ Outcome txn number (Aborted cause) ∷ rest →
-      new ≡ old ++ written (out.Answer txn.session (Aborted cause)) ∷ more → IsCaused More new txn.session (length old) cause
+      new ≡ old ++ written (out.Answer txn.session (Aborted cause)) ∷ more → IsCaused More Kept new txn.session (length old) cause
   new_reply from txn number cause rest more waits is_more =
       let addressed : IsAddressed shape.nodes from FRONT (Outcome txn number (Aborted cause)) = first_addressed shape world from FRONT (Outcome txn number (Aborted cause)) rest sound waits in
       let home : world.mail (txn.session % shape.nodes) FRONT ≡ Outcome txn number (Aborted cause) ∷ rest = subst (λ n. world.mail n FRONT ≡ Outcome txn number (Aborted cause) ∷ rest) addressed.giver waits in
-      let says : Says Now old (Outcome txn number (Aborted cause)) = All-head (Says Now old) (Outcome txn number (Aborted cause)) rest (subst (All (Says Now old)) waits (so.says from FRONT)) in
-      subst (λ list. IsCaused More list txn.session (length old) cause) (sym is_more)
+      let says : Says Now NowHeld old (Outcome txn number (Aborted cause)) = All-head (Says Now NowHeld old) (Outcome txn number (Aborted cause)) rest (subst (All (Says Now NowHeld old)) waits (so.says from FRONT)) in
+      subst (λ list. IsCaused More Kept list txn.session (length old) cause) (sym is_more)
       (outcome_caused shape world sound told outstanding txn addressed.session number cause more (grows_to (written (out.Answer txn.session (Aborted cause)) ∷ more) is_more)
       (subst (λ list. length (answers txn.session list) ≤ length (questions txn.session list)) is_more (all_few txn.session)) Now More (λ short. keeps txn (length old) (length old) (omega arith) short)
+      NowHeld Kept (kept (length old) (length old) (omega arith))
       (λ current inside. fit_in world.front.sessions txn.session current so.fit inside) rest home says)
 
   not_plain : (more : List TranscriptEntry) (j session : ℕ) (cause : AbortCause) → ArePlain more → StandsAt more j (written (out.Answer session (Aborted cause))) → ⊥
   not_plain more j session cause plains h = false≢true (plain_at more j (written (out.Answer session (Aborted cause))) plains h)
 
   reply_after : AddsEntries world event new → (session position : ℕ) (cause : AbortCause) → StandsAt new position (written (out.Answer session (Aborted cause))) →
-      IsCaused More new session position cause
+      IsCaused More Kept new session position cause
   reply_after (plain more is_more plains) session position cause h =
       elim (StandsAt-either old more position (written (out.Answer session (Aborted cause))) (subst (λ list. StandsAt list position (written (out.Answer session (Aborted cause)))) is_more h)) [
         | inl here ↦ old_reply session position cause here.1
@@ -166,12 +191,12 @@ module _ (shape : Shape) (size : IsClusterSize shape.nodes shape.spares) (state 
       ]
     where
       by : (j : ℕ) → position ≡ length old + j → StandsAt (written (out.Answer txn.session outcome) ∷ more) j (written (out.Answer session (Aborted cause))) →
-          IsCaused More new session position cause
+          IsCaused More Kept new session position cause
       by zero place k =
           let of : txn.session ≡ session = cc in
           let same : outcome ≡ Aborted cause = cc in
           let at : length old ≡ position = omega (arith, place) in
-          subst₂ (λ s p. IsCaused More new s p cause) of at
+          subst₂ (λ s p. IsCaused More Kept new s p cause) of at
           (new_reply from txn number cause rest more (subst (λ o. world.mail from FRONT ≡ Outcome txn number o ∷ rest) same waits)
           (subst (λ o. new ≡ old ++ written (out.Answer txn.session o) ∷ more) same is_more))
       by (suc j) place k = absurd (not_plain more j session cause plains k)
@@ -249,13 +274,19 @@ module _ (shape : Shape) (size : IsClusterSize shape.nodes shape.spares) (state 
 
   -- ---- messages
 
-  old_said : (from to : ℕ) → All (Says Then new) (world.mail from to)
-  old_said from to = All-weaker (Says Now old) (Says Then new) stay (world.mail from to) (so.says from to)
+  old_said : (from to : ℕ) → All (Says Then ThenHeld new) (world.mail from to)
+  old_said from to = All-weaker (Says Now NowHeld old) (Says Then ThenHeld new) stay (world.mail from to) (so.says from to)
+
+  -- the first message on its way asks an operation of its index
+  asked_here : (from to v : ℕ) (txn : TxnId) (number : ℕ) (table key : List ℕ) (op : Op) (rest : List Content) → world.mail from to ≡ Ask v txn number table key op ∷ rest →
+      IsAskedAt old txn (number - 1) table key op
+  asked_here from to v txn number table key op rest waits =
+      All-head (Says Now NowHeld old) (Ask v txn number table key op) rest (subst (All (Says Now NowHeld old)) waits (so.says from to))
 
   -- what a replica is given says what is so
   given : (from to : ℕ) (content : Content) (rest : List Content) (mark : Bool) → event ≡ deliver from to mark → IsAddressed shape.nodes from to content →
       world.mail from to ≡ content ∷ rest →
-      IsGiven Then new (world.replicas to) content mark
+      IsGiven Then ThenHeld new (world.replicas to) content mark
   given from to (Command v txn number (Work table key op)) rest mark delivers addressed waits =
       stay (Ask v txn number table key op)
       (command_asked shape world sound told outstanding txn addressed.session v number table key op rest
@@ -264,45 +295,49 @@ module _ (shape : Shape) (size : IsClusterSize shape.nodes shape.spares) (state 
   given from to (Command v txn number Commit) rest mark delivers addressed waits = tt
   given from to (Command v txn number Abort) rest mark delivers addressed waits = tt
   given from to (Answer v txn number answer) rest mark delivers addressed waits =
-      All-head (Says Then new) (Answer v txn number answer) rest (subst (All (Says Then new)) waits (old_said from to))
+      All-head (Says Then ThenHeld new) (Answer v txn number answer) rest (subst (All (Says Then ThenHeld new)) waits (old_said from to))
   given from to (Ask v txn number table key op) rest true delivers addressed waits = shorts from to (Ask v txn number table key op) rest txn delivers waits refl
   given from to (Ask v txn number table key op) rest false delivers addressed waits =
-      subst (λ n. Says Then new (Answer v txn number (answer_to (world.replicas n).part txn (table, key) op))) (sym addressed.0.receiver)
-      (stay (Answer v txn number (answer_to (world.replicas v).part txn (table, key) op))
+      subst (λ n. Says Then ThenHeld new (Answer v txn number (answer_to (world.replicas n).part txn (table, key) op))) (sym addressed.0.receiver)
+      (says_stay old new grown Now Then short_stays ThenHeld ThenHeld (λ name holder place o line held. held)
+      (Answer v txn number (answer_to (world.replicas v).part txn (table, key) op))
       (answer_says shape state ledger is shown v addressed.0.node (whole.parts v addressed.0.node) (so.own v) txn number table key op addressed.1
-      (All-head (Says Now old) (Ask v txn number table key op) rest (subst (All (Says Now old)) waits (so.says from to)))
-      (λ holder of ended opened. gone_not_open shape world holder v addressed.0.node (so.gone ended.at ended.is_quiet holder of ended.past).1 opened) Now))
+      (asked_here from to v txn number table key op rest waits)
+      (λ holder of ended opened. gone_not_open shape world holder v addressed.0.node (so.gone ended.at ended.is_quiet holder of ended.past).1 opened) Now
+      ThenHeld (λ holder conflict. refuses from v number txn holder table key op (asked_here from to v txn number table key op rest waits).line rest
+      (delivers ∙ ap (λ n. deliver from n false) addressed.0.receiver) (subst (λ n. world.mail from n ≡ Ask v txn number table key op ∷ rest) addressed.0.receiver waits)
+      addressed.1 (asked_here from to v txn number table key op rest waits).below conflict)))
   given from to content rest mark delivers addressed waits = tt
 
   message_mail : (from to : ℕ) (content : Content) (rest : List Content) (mark : Bool) → event ≡ deliver from to mark → IsAddressed shape.nodes from to content →
       world.mail from to ≡ content ∷ rest → (a b : ℕ) →
-      All (Says Then new) ((after_message shape (record world { mail = with_way world.mail from to rest }) from to content mark).mail a b)
+      All (Says Then ThenHeld new) ((after_message shape (record world { mail = with_way world.mail from to rest }) from to content mark).mail a b)
   message_mail from to content rest mark delivers addressed waits a b = by (cases_eq to FRONT)
     where
-      left : (c d : ℕ) → All (Says Then new) (with_way world.mail from to rest c d)
-      left = with_way_all (Says Then new) world.mail from to content rest waits old_said
+      left : (c d : ℕ) → All (Says Then ThenHeld new) (with_way world.mail from to rest c d)
+      left = with_way_all (Says Then ThenHeld new) world.mail from to content rest waits old_said
 
-      by : (to ≡ FRONT) ⊎ (to ≢ FRONT) → All (Says Then new) ((after_message shape (record world { mail = with_way world.mail from to rest }) from to content mark).mail a b)
+      by : (to ≡ FRONT) ⊎ (to ≢ FRONT) → All (Says Then ThenHeld new) ((after_message shape (record world { mail = with_way world.mail from to rest }) from to content mark).mail a b)
       by (inl front) =
-          subst (λ c. All (Says Then new) ((cond c (front_acts (record world { mail = with_way world.mail from to rest }) (delivered_front (nothing_noted shape) world.front from content mark))
+          subst (λ c. All (Says Then ThenHeld new) ((cond c (front_acts (record world { mail = with_way world.mail from to rest }) (delivered_front (nothing_noted shape) world.front from content mark))
           (replica_acts (record world { mail = with_way world.mail from to rest }) to (lone_step own_primary (world.replicas to) from content mark))).mail a b)) (sym (eq-eqb to FRONT front))
-          (with_mail_all (Says Then new) (with_way world.mail from to rest) FRONT (delivered_front (nothing_noted shape) world.front from content mark).step.sends left
-          (front_said Then new shape.nodes _ nodes_few some (message_sends shape world.front from content mark)) a b)
+          (with_mail_all (Says Then ThenHeld new) (with_way world.mail from to rest) FRONT (delivered_front (nothing_noted shape) world.front from content mark).step.sends left
+          (front_said Then ThenHeld new shape.nodes _ nodes_few some (message_sends shape world.front from content mark)) a b)
       by (inr apart) =
-          subst (λ c. All (Says Then new) ((cond c (front_acts (record world { mail = with_way world.mail from to rest }) (delivered_front (nothing_noted shape) world.front from content mark))
+          subst (λ c. All (Says Then ThenHeld new) ((cond c (front_acts (record world { mail = with_way world.mail from to rest }) (delivered_front (nothing_noted shape) world.front from content mark))
           (replica_acts (record world { mail = with_way world.mail from to rest }) to (lone_step own_primary (world.replicas to) from content mark))).mail a b)) (sym (ne_eqb to FRONT apart))
-          (with_mail_all (Says Then new) (with_way world.mail from to rest) to (lone_step own_primary (world.replicas to) from content mark).step.sends left
-          (replica_said Then new (world.replicas to) from content mark (given from to content rest mark delivers addressed waits)) a b)
+          (with_mail_all (Says Then ThenHeld new) (with_way world.mail from to rest) to (lone_step own_primary (world.replicas to) from content mark).step.sends left
+          (replica_said Then ThenHeld new (world.replicas to) from content mark (given from to content rest mark delivers addressed waits)) a b)
 
-  mail_for : (e : QueueEvent) → event ≡ e → (a b : ℕ) → All (Says Then new) ((after_replica_event shape world e).mail a b)
+  mail_for : (e : QueueEvent) → event ≡ e → (a b : ℕ) → All (Says Then ThenHeld new) ((after_replica_event shape world e).mail a b)
   unfolding after_replica_event
   mail_for (deliver from to mark) delivers a b =
       let here : MayReplicas world (deliver from to mark) = subst (MayReplicas world) delivers may in
-      subst (λ list. All (Says Then new) ((after_first shape world from to mark list).mail a b)) (sym here.2)
+      subst (λ list. All (Says Then ThenHeld new) ((after_first shape world from to mark list).mail a b)) (sym here.2)
       (message_mail from to here.0 here.1 mark delivers (first_addressed shape world from to here.0 here.1 sound here.2) here.2 a b)
   mail_for (take_line number text said) takes a b =
-      with_mail_all (Says Then new) world.mail FRONT (fed_front (nothing_noted shape) world.front number text said).step.sends old_said
-      (front_said Then new shape.nodes _ nodes_few some (line_sends shape world.front number text said)) a b
+      with_mail_all (Says Then ThenHeld new) world.mail FRONT (fed_front (nothing_noted shape) world.front number text said).step.sends old_said
+      (front_said Then ThenHeld new shape.nodes _ nodes_few some (line_sends shape world.front number text said)) a b
   mail_for quieten quietens a b = old_said a b
   mail_for nothing none a b = old_said a b
 
@@ -333,7 +368,7 @@ module _ (shape : Shape) (size : IsClusterSize shape.nodes shape.spares) (state 
 
   -- ---- all of it
 
-  pub event_caused : IsCausedWorld shape More after
+  pub event_caused : IsCausedWorld shape More Kept after
   event_caused = record {
     replies = reply_after adds;
     says = mail_for event refl;
@@ -356,14 +391,16 @@ same_grows transcript = record {
 
 -- the world stays, and memory that was short stays so
 pub caused_longer : (shape : Shape) (world : ReplicaWorld) (Short More : TxnId → ℕ → Type 0) →
-    ((name : TxnId) (position : ℕ) → Short name position → More name position) → IsCausedWorld shape Short world → IsCausedWorld shape More world
-caused_longer shape world Short More keeps so =
+    ((name : TxnId) (position : ℕ) → Short name position → More name position) → (Held Kept : TxnId → TxnId → Place → Op → ℕ → ℕ → Type 0) → StayHeldAt Held Kept →
+    IsCausedWorld shape Short Held world → IsCausedWorld shape More Kept world
+caused_longer shape world Short More keeps Held Kept kept so =
     let old : List TranscriptEntry = world.front.transcript in
     record {
-      replies = λ session position cause h. caused_stays old old (same_grows old) Short More keeps session position cause (so.replies session position cause h);
+      replies = λ session position cause h. caused_stays old old (same_grows old) Short More keeps Held Kept kept session position cause (so.replies session position cause h);
       says = λ from to.
-          All-weaker (Says (λ name. Short name (length old)) old) (Says (λ name. More name (length old)) old)
-          (says_stay old old (same_grows old) (λ name. Short name (length old)) (λ name. More name (length old)) (λ name short. keeps name (length old) short))
+          All-weaker (Says (λ name. Short name (length old)) (held_at Held (length old)) old) (Says (λ name. More name (length old)) (held_at Kept (length old)) old)
+          (says_stay old old (same_grows old) (λ name. Short name (length old)) (λ name. More name (length old)) (λ name short. keeps name (length old) short)
+          (held_at Held (length old)) (held_at Kept (length old)) (λ name holder place op line held. kept name holder place op line (length old) held))
           (world.mail from to) (so.says from to);
       few = so.few;
       gone = so.gone;
@@ -372,12 +409,13 @@ caused_longer shape world Short More keeps so =
     }
 
 -- another order of what is on its way
-pub reorder_caused : (shape : Shape) (world : ReplicaWorld) (mail : Mail) (Short : TxnId → ℕ → Type 0) → AreReordered world.mail mail →
-    IsCausedWorld shape Short world → IsCausedWorld shape Short (with_order world mail)
-reorder_caused shape world mail Short order so = record {
+pub reorder_caused : (shape : Shape) (world : ReplicaWorld) (mail : Mail) (Short : TxnId → ℕ → Type 0) (Held : TxnId → TxnId → Place → Op → ℕ → ℕ → Type 0) →
+    AreReordered world.mail mail → IsCausedWorld shape Short Held world → IsCausedWorld shape Short Held (with_order world mail)
+reorder_caused shape world mail Short Held order so = record {
   replies = so.replies;
   says = λ from to.
-      reordered_all world.mail mail order (Says (λ name. Short name (length world.front.transcript)) world.front.transcript) from to (so.says from to);
+      reordered_all world.mail mail order (Says (λ name. Short name (length world.front.transcript)) (held_at Held (length world.front.transcript)) world.front.transcript)
+      from to (so.says from to);
   few = so.few;
   gone = λ p h name of past. let was = so.gone p h name of past in (was.0, reorder_gone shape world mail name order was.1);
   own = so.own;
@@ -386,10 +424,10 @@ reorder_caused shape world mail Short order so = record {
 
 -- ---- at the start
 
-pub caused_first : (shape : Shape) (Short : TxnId → ℕ → Type 0) → IsCausedWorld shape Short (first_replica_world shape)
-caused_first shape Short = record {
+pub caused_first : (shape : Shape) (Short : TxnId → ℕ → Type 0) (Held : TxnId → TxnId → Place → Op → ℕ → ℕ → Type 0) → IsCausedWorld shape Short Held (first_replica_world shape)
+caused_first shape Short Held = record {
   replies = λ session position cause h. absurd cc;
-  says = λ from to. All-nil (Says (λ name. Short name 0) []);
+  says = λ from to. All-nil (Says (λ name. Short name 0) (held_at Held 0) []);
   few = λ p h name of. absurd cc;
   gone = λ p h name of past. absurd cc;
   own = λ v. tt;

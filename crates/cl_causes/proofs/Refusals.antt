@@ -90,8 +90,13 @@ module _ (shape : Shape) (state : FirmWorld) (ledger : Ledger) (is : IsLedgerOf 
       let log : ledger.logs (ledger.on place) ≡ part.log = ap ledger.logs here ∙ is.logs v below in
       (holds.held, ap (λ (entries : List LogEntry). locks_of_log entries holder place) log ∙ (sym ((is.sound v below).locks holder place) ∙ holds.holds), holds.conflict)
 
-  refused : (holder : TxnId) → first_conflict part.grants txn place (mode_of op) ≡ Some holder → IsRefused state.world.front.transcript txn holder (number - 1)
-  refused holder refuses =
+  -- whose lock refuses the operation
+  abbrev AreHeld : (TxnId → TxnId → Place → Op → ℕ → Type 0) → Type 0
+  AreHeld Held = (holder : TxnId) → first_conflict part.grants txn place (mode_of op) ≡ Some holder → Held txn holder place op asked.line
+
+  refused : (Held : TxnId → TxnId → Place → Op → ℕ → Type 0) → AreHeld Held → (holder : TxnId) → first_conflict part.grants txn place (mode_of op) ≡ Some holder →
+      IsRefused Held state.world.front.transcript txn holder (number - 1)
+  refused Held held holder refuses =
       let holds : Holds part.grants txn holder place (mode_of op) = refuser_holds part.grants txn holder place (mode_of op) own refuses in
       let lock = locked holder holds in
       let asks = passing (λ operation. same_place operation.place place && is_held (Some (mode_of operation.op)) lock.0) (ledger.done holder) (holders_asked ledger holder place lock.0 is.ordered lock.1) in
@@ -105,6 +110,7 @@ module _ (shape : Shape) (state : FirmWorld) (ledger : Ledger) (is : IsLedgerOf 
         key = key;
         op = op;
         asked = asked;
+        held = held holder refuses;
         asks = record {
           session = holds.session;
           other = asks.0.op;
@@ -120,11 +126,12 @@ module _ (shape : Shape) (state : FirmWorld) (ledger : Ledger) (is : IsLedgerOf 
         unended = λ ended. unended holder holds.session ended (subst (λ t. is_open part.log t ≡ true) holds.of (found_all (λ grant. is_open part.log grant.txn ≡ true) (is_in_conflict txn place (mode_of op)) part.grants holds.grant whole.held holds.found));
       }
 
-  pub answer_says : (Short : TxnId → Type 0) → Says Short state.world.front.transcript (Answer v txn number (answer_to part txn place op))
+  pub answer_says : (Short : TxnId → Type 0) (Held : TxnId → TxnId → Place → Op → ℕ → Type 0) → AreHeld Held →
+      Says Short Held state.world.front.transcript (Answer v txn number (answer_to part txn place op))
   unfolding answer_to
-  answer_says Short = by (refusing part txn place op) refl _
+  answer_says Short Held held = by (refusing part txn place op) refl _
     where
       by : (refuser : Option TxnId) → first_conflict part.grants txn place (mode_of op) ≡ refuser → (reply : Reply) →
-          Says Short state.world.front.transcript (Answer v txn number (answer_by refuser reply))
+          Says Short Held state.world.front.transcript (Answer v txn number (answer_by refuser reply))
       by None free reply = tt
-      by (Some holder) refuses reply = refused holder refuses
+      by (Some holder) refuses reply = refused Held held holder refuses

@@ -1,13 +1,16 @@
 -- Every firm run, by induction over its events.
-use Rattle.std.proofs.Common.{◌≡◌, ℕ, ◌≤◌, true, List, [], ◌∷◌, ◌++◌, append_assoc, length, sym, ap, ◌∙◌, subst, arith}
+use Rattle.std.proofs.Common.{◌≡◌, ℕ, ◌<◌, ◌≤◌, true, false, List, [], ◌∷◌, ◌++◌, append_assoc, length, Some, sym, ap, ◌∙◌, subst, arith}
 use Rattle.std.specs.List.{fold}
 use Rattle.std.proofs.lemmas.List.{append-nil}
 use Rattle.std.proofs.lemmas.List.Sums.{fold-append}
 use Rattle.cl_causes.specs.Causes.{IsAskOf, TrueCauses}
+use Rattle.cl_causes.specs.Held.{WasHeld}
 use Rattle.cl_causes.specs.Short.{WasShort}
 use Rattle.cl_causes.specs.Laws.{FirmRunsNameTrueCauses}
 use Rattle.cl_ledger.specs.Laws.{FirmRunsKeepOneOrder}
 use Rattle.cl_ledger.specs.Ledgers.{both_after}
+use Rattle.cl_locks.specs.Grants.{first_conflict}
+use Rattle.cl_order.specs.Operations.{mode_of}
 use Rattle.cl_roster.specs.Roster.{IsClusterSize}
 use Rattle.cl_runs.specs.Queues.{QueueEvent, deliver}
 use Rattle.cl_runs.specs.World.{Shape, EachMayHappen}
@@ -17,8 +20,11 @@ use Rattle.cl_shown.specs.Shown.{IsWellShown}
 use Rattle.cl_system.specs.Firm.{FirmWorld, FirmEvent, happens, reorder, join, MayFirm, after_firm_event, first_firm_world, firm_world_after, IsFirmRun, IsQuietly, AreQuiet}
 use Rattle.cl_system.specs.Replicas.{after_replica_event}
 use Rattle.cl_told.specs.Laws.{FirmRunsAreTold}
+use Rattle.cl_types.specs.declared.operations.Op.{Op}
 use Rattle.cl_types.specs.declared.operations.TxnId.{TxnId}
-use Rattle.cl_wire.specs.Message.{Content}
+use Rattle.cl_types.specs.Placement.{virtual_node_of}
+use Rattle.cl_types.specs.Places.{Place}
+use Rattle.cl_wire.specs.Message.{Content, Ask}
 use Rattle.cl_causes.proofs.Events.{IsCausedWorld, event_caused, reorder_caused, caused_longer, caused_first}
 use Rattle.cl_causes.proofs.Ended.{true_causes}
 
@@ -52,6 +58,24 @@ short_stays shape events event name p q far h = record {
   before = let b = h.before in omega (arith, b, far);
 }
 
+-- a lock that refused an operation did so in a longer run too
+held_stays : (shape : Shape) (events : List FirmEvent) (event : FirmEvent) (name holder : TxnId) (place : Place) (op : Op) (line p q : ℕ) → p ≤ q →
+    WasHeld shape events name holder place op line p → WasHeld shape (events ++ event ∷ []) name holder place op line q
+held_stays shape events event name holder place op line p q far h = record {
+  front = h.front;
+  back = h.back ++ event ∷ [];
+  from = h.from;
+  v = h.v;
+  number = h.number;
+  rest = h.rest;
+  stands = h.stands;
+  split = ap (λ list. list ++ event ∷ []) h.split ∙ append_assoc h.front (happens (deliver h.from h.v false) ∷ h.back) (event ∷ []);
+  head = h.head;
+  read = h.read;
+  refuses = h.refuses;
+  before = let b = h.before in omega (arith, b, far);
+}
+
 -- the system after one event more
 one_more : (shape : Shape) (events : List FirmEvent) (event : FirmEvent) →
     firm_world_after shape (events ++ event ∷ []) ≡ after_firm_event shape (firm_world_after shape events) event
@@ -62,7 +86,7 @@ module _ (shape : Shape) (size : IsClusterSize shape.nodes shape.spares) (told :
     (outstanding : SessionHasOutstanding) (well : FirmRunsAreWellShown) (served : LedgersAreShown) where
   -- what holds of the system where memory was short in these events
   abbrev HoldsWith : List FirmEvent → FirmWorld → Type 0
-  HoldsWith events state = IsCausedWorld shape (WasShort shape events) state.world
+  HoldsWith events state = IsCausedWorld shape (WasShort shape events) (WasHeld shape events) state.world
 
   -- what holds after a run
   abbrev Holds : List FirmEvent → Type 0
@@ -71,7 +95,7 @@ module _ (shape : Shape) (size : IsClusterSize shape.nodes shape.spares) (told :
   -- it holds at the start
   holds_first : Holds []
   unfolding firm_world_after
-  holds_first = caused_first shape (WasShort shape [])
+  holds_first = caused_first shape (WasShort shape []) (WasHeld shape [])
 
   -- the run goes on by an event, and is quiet where it says so
   record GoesOn (events : List FirmEvent) (event : FirmEvent) : Type 0 where
@@ -126,6 +150,26 @@ module _ (shape : Shape) (size : IsClusterSize shape.nodes shape.spares) (told :
       before = let same = ap length (ap (λ e. transcript_of_firm shape (events ++ happens e ∷ [])) (sym delivers) ∙ new_is) in omega (arith, same);
     }
 
+    -- a lock refuses an operation in this event
+    held_now : (from v number : ℕ) (name holder : TxnId) (table key : List ℕ) (op : Op) (line : ℕ) (rest : List Content) → event ≡ deliver from v false →
+        state.world.mail from v ≡ Ask v name number table key op ∷ rest → v ≡ virtual_node_of key shape.nodes → line < length state.world.front.transcript →
+        first_conflict (state.world.replicas v).part.grants name (table, key) (mode_of op) ≡ Some holder →
+        WasHeld shape (events ++ happens event ∷ []) name holder (table, key) op line (length (after_replica_event shape state.world event).front.transcript)
+    held_now from v number name holder table key op line rest delivers waits stands read refuses = record {
+      front = events;
+      back = [];
+      from = from;
+      v = v;
+      number = number;
+      rest = rest;
+      stands = stands;
+      split = ap (λ e. events ++ happens e ∷ []) delivers;
+      head = waits;
+      read = read;
+      refuses = refuses;
+      before = let same = ap length (ap (λ e. transcript_of_firm shape (events ++ happens e ∷ [])) (sym delivers) ∙ new_is) in omega (arith, same);
+    }
+
     -- what holds before the event holds after it
     happens_caused : Holds events → HoldsWith (events ++ happens event ∷ []) (after_firm_event shape state (happens event))
     unfolding after_firm_event
@@ -134,6 +178,8 @@ module _ (shape : Shape) (size : IsClusterSize shape.nodes shape.spares) (told :
         event_caused shape size state event on.may.0 order.sound order.commits (told shape events size on.is_firm) outstanding
         (both_after shape events).ledger order.ledger (served shape events size on.is_firm) well_new.fit_turns well_new.few
         (WasShort shape events) (WasShort shape (events ++ happens event ∷ [])) (short_stays shape events (happens event)) short_now
+        (WasHeld shape events) (WasHeld shape (events ++ happens event ∷ []))
+        (λ p q far name holder place op line held. held_stays shape events (happens event) name holder place op line p q far held) held_now
         (λ quietens. subst (λ e. IsQuietly state (happens e)) quietens on.quietly) so
 
   -- ---- all of it
@@ -142,7 +188,9 @@ module _ (shape : Shape) (size : IsClusterSize shape.nodes shape.spares) (told :
   world_caused : (events : List FirmEvent) (event : FirmEvent) → Holds events → HoldsWith (events ++ event ∷ []) (firm_world_after shape events)
   world_caused events event so =
       caused_longer shape (firm_world_after shape events).world (WasShort shape events) (WasShort shape (events ++ event ∷ []))
-      (λ name position short. short_stays shape events event name position position (omega arith) short) so
+      (λ name position short. short_stays shape events event name position position (omega arith) short)
+      (WasHeld shape events) (WasHeld shape (events ++ event ∷ []))
+      (λ name holder place op line position held. held_stays shape events event name holder place op line position position (omega arith) held) so
 
   -- so it does after any event
   holds_next : (events : List FirmEvent) (event : FirmEvent) → GoesOn events event → Holds events → Holds (events ++ event ∷ [])
@@ -150,7 +198,8 @@ module _ (shape : Shape) (size : IsClusterSize shape.nodes shape.spares) (told :
   holds_next events (happens event) on so = after_one events (happens event) (happens_caused events event on so)
   holds_next events (reorder mail) on so =
       after_one events (reorder mail)
-      (reorder_caused shape (firm_world_after shape events).world mail (WasShort shape (events ++ reorder mail ∷ [])) on.may
+      (reorder_caused shape (firm_world_after shape events).world mail (WasShort shape (events ++ reorder mail ∷ []))
+      (WasHeld shape (events ++ reorder mail ∷ [])) on.may
       (world_caused events (reorder mail) so))
   holds_next events (join txn) on so = after_one events (join txn) (world_caused events (join txn) so)
 
@@ -168,10 +217,10 @@ module _ (shape : Shape) (size : IsClusterSize shape.nodes shape.spares) (told :
       subst Holds (sym regroup) (holds_on more (events ++ event ∷ []) (holds_next events event on so) longer quiet_longer)
 
   -- each cause of a run is true
-  run_causes : (events : List FirmEvent) → IsFirmRun shape events → AreQuiet shape events → TrueCauses (transcript_of_firm shape events) (WasShort shape events)
+  run_causes : (events : List FirmEvent) → IsFirmRun shape events → AreQuiet shape events → TrueCauses (transcript_of_firm shape events) (WasShort shape events) (WasHeld shape events)
   run_causes events is quietly =
       let so : Holds events = holds_on events [] holds_first is quietly in
-      true_causes (WasShort shape events) outstanding (transcript_of_firm shape events) (well shape events size is).few so.few so.replies
+      true_causes (WasShort shape events) (WasHeld shape events) outstanding (transcript_of_firm shape events) (well shape events size is).few so.few so.replies
 
 -- the law, by those of what firm runs show and serve
 pub firm_runs_name_true_causes : FirmRunsAreTold → FirmRunsKeepOneOrder → SessionHasOutstanding → FirmRunsAreWellShown → LedgersAreShown →

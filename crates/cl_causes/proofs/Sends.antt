@@ -23,7 +23,9 @@ use Rattle.cl_types.specs.declared.answers.Answer.TheVariants as answer
 use Rattle.cl_types.specs.declared.answers.Outcome.TheVariants.{Committed, Aborted}
 use Rattle.cl_types.specs.declared.operations.Command.{Command as ClientCommand}
 use Rattle.cl_types.specs.declared.operations.Command.TheVariants.{Begin, Work, Commit, Abort}
+use Rattle.cl_types.specs.declared.operations.Op.{Op}
 use Rattle.cl_types.specs.declared.operations.TxnId.{TxnId}
+use Rattle.cl_types.specs.Places.{Place}
 use Rattle.cl_vnode.specs.Inputs.{has_decide}
 use Rattle.cl_vnode.specs.Replica.{ReplicaState}
 use Rattle.cl_log.specs.Open.{is_open}
@@ -43,13 +45,13 @@ pub with_way_all : (P : Content → Type 0) (mail : Mail) (from to : ℕ) (conte
 with_way_all P mail from to content rest waits all a b =
     cond_both (eqb b to && eqb a from) rest (mail a b) (All P) (λ here. All-tail P content rest (subst (All P) waits (all from to))) (λ elsewhere. all a b)
 
-module _ (Short : TxnId → Type 0) (transcript : List TranscriptEntry) where
+module _ (Short : TxnId → Type 0) (Held : TxnId → TxnId → Place → Op → ℕ → Type 0) (transcript : List TranscriptEntry) where
   abbrev pub AreSaid : List Outgoing → Type 0
-  AreSaid sends = All (λ send. Says Short transcript send.payload) sends
+  AreSaid sends = All (λ send. Says Short Held transcript send.payload) sends
 
   -- ---- the front sends commands alone
 
-  command_says : (nodes to : ℕ) (content : Content) → nodes ≤ 8 → 0 < nodes → IsAddressed nodes FRONT to content → Says Short transcript content
+  command_says : (nodes to : ℕ) (content : Content) → nodes ≤ 8 → 0 < nodes → IsAddressed nodes FRONT to content → Says Short Held transcript content
   command_says nodes to (Ask v txn number table key op) few some is = absurd (let home = is.0.giver in omega (arith, home, few, some))
   command_says nodes to (Answer v txn number (answer.Refused holder)) few some is = absurd (let home = is.giver in let node = is.node in omega (arith, home, few, node))
   command_says nodes to (Answer v txn number answer.NoMemory) few some is = absurd (let home = is.giver in let node = is.node in omega (arith, home, few, node))
@@ -61,13 +63,13 @@ module _ (Short : TxnId → Type 0) (transcript : List TranscriptEntry) where
 
   pub front_said : (nodes : ℕ) (sends : List Outgoing) → nodes ≤ 8 → 0 < nodes → AreSent nodes FRONT sends → AreSaid sends
   front_said nodes sends few some are =
-      All-weaker (λ (send : Outgoing). IsAddressed nodes FRONT send.to send.payload) (λ (send : Outgoing). Says Short transcript send.payload) (λ send is. command_says nodes send.to send.payload few some is) sends are
+      All-weaker (λ (send : Outgoing). IsAddressed nodes FRONT send.to send.payload) (λ (send : Outgoing). Says Short Held transcript send.payload) (λ send is. command_says nodes send.to send.payload few some is) sends are
 
   -- ---- a controller
 
   abbrev ActSays : Act → Type 0
-  ActSays (acts.Ask v txn number table key op) = Says Short transcript (Ask v txn number table key op)
-  ActSays (acts.Say txn number outcome) = Says Short transcript (Outcome txn number outcome)
+  ActSays (acts.Ask v txn number table key op) = Says Short Held transcript (Ask v txn number table key op)
+  ActSays (acts.Say txn number outcome) = Says Short Held transcript (Outcome txn number outcome)
   ActSays act = Unit {0}
 
   abbrev ActsSay : List Act → Type 0
@@ -75,13 +77,13 @@ module _ (Short : TxnId → Type 0) (transcript : List TranscriptEntry) where
   ActsSay (act ∷ list) = ActSays act × ActsSay list
 
   P : Outgoing → Type 0
-  P send = Says Short transcript send.payload
+  P send = Says Short Held transcript send.payload
 
-  one_said : (send : Outgoing) (rest : List Outgoing) → Says Short transcript send.payload → AreSaid rest → AreSaid (send ∷ rest)
-  one_said send rest is more = All-cons (λ (send : Outgoing). Says Short transcript send.payload) send rest is more
+  one_said : (send : Outgoing) (rest : List Outgoing) → Says Short Held transcript send.payload → AreSaid rest → AreSaid (send ∷ rest)
+  one_said send rest is more = All-cons (λ (send : Outgoing). Says Short Held transcript send.payload) send rest is more
 
   none_said : AreSaid []
-  none_said = All-nil (λ (send : Outgoing). Says Short transcript send.payload)
+  none_said = All-nil (λ (send : Outgoing). Says Short Held transcript send.payload)
 
   acts_said : (list : List Act) → ActsSay list → AreSaid (messages_of own_primary list)
   acts_said [] say = none_said
@@ -103,7 +105,7 @@ module _ (Short : TxnId → Type 0) (transcript : List TranscriptEntry) where
   commit_say control txn [] = (tt, tt)
   commit_say control txn (v ∷ vs) = prepares_say (ascending control.nodes (participants_of control txn)) txn
 
-  abort_say : (control : ControlState) (txn : TxnId) (number : ℕ) (cause : AbortCause) → Says Short transcript (Outcome txn number (Aborted cause)) →
+  abort_say : (control : ControlState) (txn : TxnId) (number : ℕ) (cause : AbortCause) → Says Short Held transcript (Outcome txn number (Aborted cause)) →
       ActsSay (abort_acts control txn number cause)
   abort_say control txn number cause is = finishes_say (ascending control.nodes (participants_of control txn)) txn false (acts.Say txn number (Aborted cause) ∷ []) (is, tt)
 
@@ -117,9 +119,9 @@ module _ (Short : TxnId → Type 0) (transcript : List TranscriptEntry) where
   -- what a replica is given says what is so: the command that it is to carry out is an operation of its index, and its own answer is true
   abbrev pub IsGiven : ReplicaState → Content → Bool → Type 0
   IsGiven state (Command v txn number (Work table key op)) mark = IsAskedAt transcript txn (number - 1) table key op
-  IsGiven state (Answer v txn number answer) mark = Says Short transcript (Answer v txn number answer)
+  IsGiven state (Answer v txn number answer) mark = Says Short Held transcript (Answer v txn number answer)
   IsGiven state (Ask v txn number table key op) true = Short txn
-  IsGiven state (Ask v txn number table key op) false = Says Short transcript (Answer v txn number (answer_to state.part txn (table, key) op))
+  IsGiven state (Ask v txn number table key op) false = Says Short Held transcript (Answer v txn number (answer_to state.part txn (table, key) op))
   IsGiven state content mark = Unit {0}
 
   command_acts_say : (state : ReplicaState) (v : ℕ) (txn : TxnId) (number : ℕ) (what : ClientCommand) (mark : Bool) →
@@ -130,7 +132,7 @@ module _ (Short : TxnId → Type 0) (transcript : List TranscriptEntry) where
   command_acts_say state v txn number Commit mark given = commit_say state.control txn (participants_of state.control txn)
   command_acts_say state v txn number Abort mark given = abort_say state.control txn number Client tt
 
-  answered_acts_say : (control : ControlState) (v : ℕ) (txn : TxnId) (number : ℕ) (answer : OpAnswer) → Says Short transcript (Answer v txn number answer) →
+  answered_acts_say : (control : ControlState) (v : ℕ) (txn : TxnId) (number : ℕ) (answer : OpAnswer) → Says Short Held transcript (Answer v txn number answer) →
       ActsSay (answered_acts control txn number answer)
   answered_acts_say control v txn number (answer.Done reply) given = (tt, tt)
   answered_acts_say control v txn number (answer.Refused holder) given = abort_say control txn number (Conflict holder) given

@@ -1,21 +1,24 @@
 -- The guarantee over every run of the cluster, by the firm run that it is.
-use Rattle.std.proofs.Common.{◌≡◌, ℕ, ◌≤◌, false, List, [], ◌∷◌, ◌++◌, Option, sym, ap, ◌∙◌, subst, subst₂}
+use Rattle.std.proofs.Common.{◌≡◌, ℕ, ◌<◌, ◌≤◌, true, false, List, [], ◌∷◌, ◌++◌, length, Option, sym, ap, ◌∙◌, subst, subst₂}
 use Rattle.std.specs.Option.{unwrap_or}
 use Rattle.cl_causes.specs.Causes as causes
 use Rattle.cl_causes.specs.Causes.{IsAskOf, IsTrueCause}
+use Rattle.cl_causes.specs.Held as lock
 use Rattle.cl_causes.specs.Laws.{FirmRunsNameTrueCauses}
 use Rattle.cl_causes.specs.Short as short
-use Rattle.cl_guarantee.specs.Causes.{WasShort}
+use Rattle.cl_guarantee.specs.Causes.{WasHeld, WasShort}
 use Rattle.cl_guarantee.specs.Laws.{RunsAreSerializable, ReplicasAgree, RunsNameTrueCauses, LinesAreFed, RestAnswersAll, HistoriesGoOn, LogsGoOn}
 use Rattle.cl_guarantee.specs.Laws.{RunsKeepBrokenOut, RunsReplayUnbroken}
+use Rattle.cl_locks.specs.Grants.{first_conflict}
 use Rattle.cl_log.specs.LogEntry.{LogEntry}
 use Rattle.cl_log.specs.Open.{is_among}
 use Rattle.cl_members.specs.Laws.{RunsAreFirmRuns, EventsGoOn, RunsAreQuiet, MarksAreOfRuns}
 use Rattle.cl_members.specs.Events.{firm_events_of}
 use Rattle.cl_members.specs.Members.{transcript_after, history_after, IsReplicaAfter}
+use Rattle.cl_order.specs.Operations.{mode_of}
 use Rattle.cl_part.specs.State.{State}
 use Rattle.cl_roster.specs.Roster.{IsClusterSize}
-use Rattle.cl_runs.specs.World.{Cores, Shape, Run, EachMayHappen, IsEnabledWidely, after_event, first_world, IsWideRun}
+use Rattle.cl_runs.specs.World.{Cores, Shape, Run, handle, EachMayHappen, IsEnabledWidely, after_event, first_world, IsWideRun}
 use Rattle.cl_runs.proofs.Runs.{runs_are_wide}
 use Rattle.cl_serial.specs.Exchanges.{Exchange}
 use Rattle.cl_serial.specs.PlainMap.{RepliesAgree}
@@ -30,8 +33,12 @@ use Rattle.cl_system.specs.Firm.{firm_world_after, IsFirmRun}
 use Rattle.cl_system.specs.System.{Core, system}
 use Rattle.cl_types.specs.declared.answers.AbortCause.{AbortCause}
 use Rattle.cl_types.specs.declared.answers.AbortCause.TheVariants.{Conflict, Node, Client, Memory}
+use Rattle.cl_types.specs.declared.operations.Op.{Op}
 use Rattle.cl_types.specs.declared.operations.TxnId.{TxnId}
+use Rattle.cl_types.proofs.PlacementLaws.{virtual_node_of-below}
+use Rattle.cl_types.specs.Places.{Place}
 use Rattle.cl_vnode.specs.Replica.{ReplicaState}
+use Rattle.cl_wire.specs.Message.{Ask}
 
 -- ---- first parts of a run
 
@@ -44,19 +51,30 @@ wide_before : (cores : Cores Core) (shape : Shape) (run more : Run) → IsWideRu
 unfolding IsWideRun
 wide_before cores shape run more wide = each_before (λ world event. IsEnabledWidely shape world event.0) (after_event cores) run more (first_world cores shape) wide
 
--- causes are true by any other account of where memory was short that says as much
-cause_by : (transcript : List TranscriptEntry) (Short Other : TxnId → ℕ → Type 0) → ((name : TxnId) (replied : ℕ) → Short name replied → Other name replied) →
-    (name : TxnId) (asked : Exchange) (replied : ℕ) (cause : AbortCause) → IsTrueCause transcript Short name asked replied cause → IsTrueCause transcript Other name asked replied cause
-cause_by transcript Short Other says name asked replied (Conflict holder) is = is
-cause_by transcript Short Other says name asked replied (Node node) is = is
-cause_by transcript Short Other says name asked replied Client is = is
-cause_by transcript Short Other says name asked replied Memory is = (is.0, says name replied is.1)
+-- causes are true by any other account of where memory was short and whose lock refused what, that says as much
+module _ (transcript : List TranscriptEntry) (Short Other : TxnId → ℕ → Type 0) (Held Kept : TxnId → TxnId → Place → Op → ℕ → ℕ → Type 0)
+    (says : (name : TxnId) (replied : ℕ) → Short name replied → Other name replied)
+    (holds : (name holder : TxnId) (place : Place) (op : Op) (line replied : ℕ) → Held name holder place op line replied → Kept name holder place op line replied) where
+  cause_by : (name : TxnId) (asked : Exchange) (replied : ℕ) (cause : AbortCause) → IsTrueCause transcript Short Held name asked replied cause →
+      IsTrueCause transcript Other Kept name asked replied cause
+  cause_by name asked replied (Conflict holder) is = record {
+    another = is.another;
+    table = is.table;
+    key = is.key;
+    op = is.op;
+    operates = is.operates;
+    held = holds name holder (is.table, is.key) is.op asked.line replied is.held;
+    conflicting = is.conflicting;
+    unended = is.unended;
+  }
+  cause_by name asked replied (Node node) is = is
+  cause_by name asked replied Client is = is
+  cause_by name asked replied Memory is = (is.0, says name replied is.1)
 
-true_by : (transcript : List TranscriptEntry) (Short Other : TxnId → ℕ → Type 0) → ((name : TxnId) (replied : ℕ) → Short name replied → Other name replied) →
-    causes.TrueCauses transcript Short → causes.TrueCauses transcript Other
-true_by transcript Short Other says are session position cause stands =
-    let (number, asked, within, answered, is) = are session position cause stands in
-    (number, asked, within, answered, cause_by transcript Short Other says (record { session = session; number = number }) asked position cause is)
+  true_by : causes.TrueCauses transcript Short Held → causes.TrueCauses transcript Other Kept
+  true_by are session position cause stands =
+      let (number, asked, within, answered, is) = are session position cause stands in
+      (number, asked, within, answered, cause_by (record { session = session; number = number }) asked position cause is)
 
 -- ---- the transcript and the history
 
@@ -147,7 +165,7 @@ module _ (firm : RunsAreFirmRuns) where
   short_in_run : MarksAreOfRuns → (shape : Shape) (run : Run) → IsClusterSize shape.nodes shape.spares → IsWideRun (system shape.nodes) shape run → (name : TxnId) (replied : ℕ) →
       short.WasShort shape (firm_events_of shape run) name replied → WasShort shape run name replied
   short_in_run marks shape run size wide name replied h =
-      let mark = marks shape run h.front h.back h.from h.to size wide h.split in
+      let mark = marks shape run h.front h.back h.from h.to true size wide h.split in
       let same : mark.packet.content ≡ h.content = (let a = h.head in let b = mark.head in cc) in
       record {
         front = mark.before;
@@ -161,10 +179,43 @@ module _ (firm : RunsAreFirmRuns) where
         before = subst (λ n. n ≤ replied) (sym mark.written) h.before;
       }
 
+  -- whose lock refused an operation in the firm run, did so in the run
+  held_in_run : MarksAreOfRuns → (shape : Shape) (run : Run) → IsClusterSize shape.nodes shape.spares → IsWideRun (system shape.nodes) shape run →
+      (name holder : TxnId) (place : Place) (op : Op) (line replied : ℕ) → lock.WasHeld shape (firm_events_of shape run) name holder place op line replied →
+      WasHeld shape run name holder place op line replied
+  held_in_run marks shape run size wide name holder place op line replied h =
+      let mark = marks shape run h.front h.back h.from h.v false size wide h.split in
+      let same : mark.packet.content ≡ Ask h.v name h.number place.0 place.1 op = (let a = h.head in let b = mark.head in cc) in
+      let before : IsWideRun (system shape.nodes) shape mark.before
+      = wide_before (system shape.nodes) shape mark.before ((handle h.v mark.id, false) ∷ mark.after)
+      (subst (λ (all : Run). IsWideRun (system shape.nodes) shape all) mark.split wide) in
+      let is = firm shape mark.before size before in
+      let part = is.parts h.v (subst (λ v. v < shape.nodes) (sym h.stands) (virtual_node_of-below place.1 shape.nodes size.counted)) in
+      record {
+        front = mark.before;
+        back = mark.after;
+        v = h.v;
+        id = mark.id;
+        packet = mark.packet;
+        number = h.number;
+        primary = part.replica;
+        stands = h.stands;
+        split = mark.split;
+        handles = mark.handles;
+        asks = same;
+        read = subst (λ (transcript : List TranscriptEntry). line < length transcript)
+            (ap (transcript_of_firm shape) (sym mark.events) ∙ sym is.transcript) h.read;
+        at_primary = part.after;
+        refuses = ap (λ (state : State). first_conflict state.grants name place (mode_of op))
+            (part.same ∙ ap (λ events. ((firm_world_after shape events).world.replicas h.v).part) mark.events) ∙ h.refuses;
+        before = subst (λ n. n ≤ replied) (sym mark.written) h.before;
+      }
+
   pub runs_name_true_causes : RunsAreQuiet → MarksAreOfRuns → FirmRunsNameTrueCauses → RunsNameTrueCauses
   runs_name_true_causes quiet marks law shape run size is_run =
       let wide = runs_are_wide (system shape.nodes) shape run is_run in
       let is = firm shape run size wide in
-      subst (λ (transcript : List TranscriptEntry). causes.TrueCauses transcript (WasShort shape run)) (sym is.transcript)
-      (true_by (transcript_of_firm shape (firm_events_of shape run)) _ _ (short_in_run marks shape run size wide)
+      subst (λ (transcript : List TranscriptEntry). causes.TrueCauses transcript (WasShort shape run) (WasHeld shape run)) (sym is.transcript)
+      (true_by (transcript_of_firm shape (firm_events_of shape run)) (short.WasShort shape (firm_events_of shape run)) (WasShort shape run)
+      (lock.WasHeld shape (firm_events_of shape run)) (WasHeld shape run) (short_in_run marks shape run size wide) (held_in_run marks shape run size wide)
       (law shape (firm_events_of shape run) size is.firm (quiet shape run size is_run)))

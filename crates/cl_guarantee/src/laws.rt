@@ -19,8 +19,8 @@ pub fn runs_keep_what_they_decided()
     ensures logs { LogsGoOn }
 {}
 
-/// Each reply ABORTED of a run names a true cause: CLIENT of ABORT, CONFLICT of an operation that conflicts with one of
-/// another transaction, MEMORY where a participant of the transaction found no memory.
+/// Each reply ABORTED of a run names a true cause: CLIENT of ABORT, CONFLICT of an operation that met a lock of another
+/// transaction, MEMORY where a participant of the transaction found no memory.
 pub fn causes_are_true()
     ensures { RunsNameTrueCauses }
 {}

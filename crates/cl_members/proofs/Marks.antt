@@ -1,4 +1,4 @@
--- A message that comes with the mark is one whose packet an event of the run with the mark handles.
+-- A message that comes is one whose packet an event of the run with the same mark handles.
 use Rattle.std.proofs.Common.{◌≡◌, ℕ, ◌-◌, Bool, true, false, cond, ◌⊎◌, inl, inr, List, [], ◌∷◌, ◌++◌, append_assoc, length, map, Option, Some, None}
 use Rattle.std.proofs.Common.{refl, sym, ap, ◌∙◌, subst}
 use Rattle.std.specs.List.{Contains, fold}
@@ -145,14 +145,14 @@ moved_mail : (mail : Mail) (a b c d : ℕ) (list : List Content) → a ≡ c →
 moved_mail mail a b c d list first second is = ap (λ n. mail n d) (sym first) ∙ (ap (mail a) (sym second) ∙ is)
 
 -- so it is of an event of pairs that has the coming of a message in its block
-event_outward : (shape : Shape) (pairs : PairWorld) (event : QueueEvent) (front : List FirmEvent) (from to : ℕ) (back : List FirmEvent) →
-    seen_event shape pairs event ≡ front ++ happens (deliver from to true) ∷ back →
-    IsOutward (seen_event shape pairs event) event (pairs.mail from to) front (deliver from to true)
+event_outward : (shape : Shape) (pairs : PairWorld) (event : QueueEvent) (front : List FirmEvent) (from to : ℕ) (mark : Bool) (back : List FirmEvent) →
+    seen_event shape pairs event ≡ front ++ happens (deliver from to mark) ∷ back →
+    IsOutward (seen_event shape pairs event) event (pairs.mail from to) front (deliver from to mark)
 unfolding seen_event
-event_outward shape pairs (deliver a b mark) front from to back is =
-    let came : IsOutward (seen_event shape pairs (deliver a b mark)) (deliver a b mark) (pairs.mail a b) front (deliver from to true)
-    = delivery_outward shape pairs (after_pair_event shape pairs (deliver a b mark)) (deliver a b mark) (pairs.mail a b) front (deliver from to true) back is in
-    let same : deliver a b mark ≡ deliver from to true = came.same in
+event_outward shape pairs (deliver a b other) front from to mark back is =
+    let came : IsOutward (seen_event shape pairs (deliver a b other)) (deliver a b other) (pairs.mail a b) front (deliver from to mark)
+    = delivery_outward shape pairs (after_pair_event shape pairs (deliver a b other)) (deliver a b other) (pairs.mail a b) front (deliver from to mark) back is in
+    let same : deliver a b other ≡ deliver from to mark = came.same in
     let giver : a ≡ from = cc in
     let receiver : b ≡ to = cc in
     record {
@@ -165,11 +165,11 @@ event_outward shape pairs (deliver a b mark) front from to back is =
       order = came.order;
       whole = came.whole;
     }
-event_outward shape pairs (take_line number text said) front from to back is =
-    let same : take_line number text said ≡ deliver from to true = alone_is (take_line number text said) front (deliver from to true) back is in absurd cc
-event_outward shape pairs quieten front from to back is =
-    let same : quieten ≡ deliver from to true = alone_is quieten front (deliver from to true) back is in absurd cc
-event_outward shape pairs nothing front from to back is = absurd (joins_only [] front (deliver from to true) back is)
+event_outward shape pairs (take_line number text said) front from to mark back is =
+    let same : take_line number text said ≡ deliver from to mark = alone_is (take_line number text said) front (deliver from to mark) back is in absurd cc
+event_outward shape pairs quieten front from to mark back is =
+    let same : quieten ≡ deliver from to mark = alone_is quieten front (deliver from to mark) back is in absurd cc
+event_outward shape pairs nothing front from to mark back is = absurd (joins_only [] front (deliver from to mark) back is)
 
 -- ---- one event more
 
@@ -193,11 +193,11 @@ written_after shape events event order =
     (sym (fold-append (after_firm_event shape) (first_firm_world shape) events (happens event ∷ [])))
 
 -- an event of a run handles the packet whose message comes
-record IsHandled (shape : Shape) (run : Run) (event : Happening × Bool) (from to : ℕ) : Type 0 where
+record IsHandled (shape : Shape) (run : Run) (event : Happening × Bool) (from to : ℕ) (mark : Bool) : Type 0 where
   id : ℕ
   packet : Message
   rest : List Content
-  happened : event ≡ (handle to id, true)
+  happened : event ≡ (handle to id, mark)
   handles : packet_at (world_of shape run) id ≡ Some packet
   head : (pairs_after shape run).mail from to ≡ packet.content ∷ rest
 
@@ -205,13 +205,13 @@ module _ (shape : Shape) (size : IsClusterSize shape.nodes shape.spares) where
   -- what is left to be shown of a run
   abbrev AreMarked : Run → Type 0
   AreMarked run =
-      (front back : List FirmEvent) (from to : ℕ) → firm_events_of shape run ≡ front ++ happens (deliver from to true) ∷ back →
-      IsMarkedIn shape run front from to
+      (front back : List FirmEvent) (from to : ℕ) (mark : Bool) → firm_events_of shape run ≡ front ++ happens (deliver from to mark) ∷ back →
+      IsMarkedIn shape run front from to mark
 
   -- no event is in the empty run
   marked_first : AreMarked []
   unfolding seen_events queue_events_of
-  marked_first front back from to is = absurd (joins_only [] front (deliver from to true) back is)
+  marked_first front back from to mark is = absurd (joins_only [] front (deliver from to mark) back is)
 
   module _ (run : Run) (event : Happening × Bool) (longer : IsWideRun (cores shape) shape (run ++ event ∷ [])) where
     -- the run, and what may happen after it
@@ -219,14 +219,16 @@ module _ (shape : Shape) (size : IsClusterSize shape.nodes shape.spares) where
     both = (runs_go_on (cores shape) shape run event.0 event.1).enabled_widely.0 longer
 
     -- what comes in an earlier event
-    marked_before : (front : List FirmEvent) (from to : ℕ) → IsMarkedIn shape run front from to → IsMarkedIn shape (run ++ event ∷ []) front from to
-    marked_before front from to is = record {
+    marked_before : (front : List FirmEvent) (from to : ℕ) (mark : Bool) → IsMarkedIn shape run front from to mark →
+        IsMarkedIn shape (run ++ event ∷ []) front from to mark
+    marked_before front from to mark is = record {
       before = is.before;
       after = is.after ++ event ∷ [];
       id = is.id;
       packet = is.packet;
       rest = is.rest;
-      split = ap (λ list. list ++ event ∷ []) is.split ∙ append_assoc is.before ((handle to is.id, true) ∷ is.after) (event ∷ []);
+      split = ap (λ list. list ++ event ∷ []) is.split ∙ append_assoc is.before ((handle to is.id, mark) ∷ is.after) (event ∷ []);
+      events = is.events;
       handles = is.handles;
       head = is.head;
       written = is.written;
@@ -250,23 +252,23 @@ module _ (shape : Shape) (size : IsClusterSize shape.nodes shape.spares) where
 
     -- what is left to be shown of what the event is for cores and queues
     abbrev AreHandled : QueueEvent → Type 0
-    AreHandled here = (from to : ℕ) → here ≡ deliver from to true → IsHandled shape run event from to
+    AreHandled here = (from to : ℕ) (mark : Bool) → here ≡ deliver from to mark → IsHandled shape run event from to mark
 
     -- a packet, taken at once or not
     packet_handled : (actor id : ℕ) → event.0 ≡ handle actor id → (m : Message) → packet_at (world_of shape run) id ≡ Some m → (now : Bool) →
         is_now (received ((world_of shape run).actors actor).endpoint m.from m.seq) ≡ now → AreHandled (cond now (deliver m.from actor event.1) nothing)
-    packet_handled actor id is m found false now from to delivers = absurd cc
-    packet_handled actor id is m found true now from to delivers =
+    packet_handled actor id is m found false now from to mark delivers = absurd cc
+    packet_handled actor id is m found true now from to mark delivers =
         let giver : m.from ≡ from = cc in
         let receiver : actor ≡ to = cc in
-        let marked : event.1 ≡ true = cc in
+        let marked : event.1 ≡ mark = cc in
         let head = head_is actor id is m found now in
         record {
           id = id;
           packet = m;
           rest = head.0;
           happened = ap (λ (happening : Happening). (happening, event.1)) is
-              ∙ ap (λ n. (handle n id, event.1)) receiver ∙ ap (λ mark. (handle to id, mark)) marked;
+              ∙ ap (λ n. (handle n id, event.1)) receiver ∙ ap (λ other. (handle to id, other)) marked;
           handles = found;
           head = moved_mail (pairs_after shape run).mail m.from actor from to (m.content ∷ head.0) giver receiver head.1;
         }
@@ -274,7 +276,7 @@ module _ (shape : Shape) (size : IsClusterSize shape.nodes shape.spares) where
     -- a packet, if there is one
     event_handled : (actor id : ℕ) → event.0 ≡ handle actor id → (found : Option Message) → packet_at (world_of shape run) id ≡ found →
         AreHandled (event_on (world_of shape run) actor event.1 found)
-    event_handled actor id is None found = λ from to delivers. absurd cc
+    event_handled actor id is None found = λ from to mark delivers. absurd cc
     event_handled actor id is (Some m) found =
         packet_handled actor id is m found (is_now (received ((world_of shape run).actors actor).endpoint m.from m.seq)) refl
 
@@ -282,17 +284,17 @@ module _ (shape : Shape) (size : IsClusterSize shape.nodes shape.spares) where
     happening_handled : (happening : Happening) → event.0 ≡ happening → AreHandled (queue_event_of (world_of shape run) happening event.1)
     unfolding queue_event_of
     happening_handled (handle actor id) is = event_handled actor id is (packet_at (world_of shape run) id) refl
-    happening_handled (tick actor) is = λ from to delivers. absurd cc
-    happening_handled (feed number text said) is = λ from to delivers. absurd cc
-    happening_handled quiet is = λ from to delivers. absurd cc
+    happening_handled (tick actor) is = λ from to mark delivers. absurd cc
+    happening_handled (feed number text said) is = λ from to mark delivers. absurd cc
+    happening_handled quiet is = λ from to mark delivers. absurd cc
 
     -- what comes in this event
-    marked_here : (from to : ℕ) (front : List FirmEvent) →
+    marked_here : (from to : ℕ) (mark : Bool) (front : List FirmEvent) →
         IsOutward (seen_event shape (pairs_after shape run) (event_after shape run event)) (event_after shape run event) ((pairs_after shape run).mail from to)
-        front (deliver from to true) → IsMarkedIn shape (run ++ event ∷ []) (firm_events_of shape run) from to
-    marked_here from to front came =
+        front (deliver from to mark) → IsMarkedIn shape (run ++ event ∷ []) (firm_events_of shape run) from to mark
+    marked_here from to mark front came =
         let pairs : PairWorld = pairs_after shape run in
-        let handled : IsHandled shape run event from to = happening_handled event.0 refl from to came.same in
+        let handled : IsHandled shape run event from to mark = happening_handled event.0 refl from to mark came.same in
         let out : is_internal handled.packet.content ≡ false
         = (let here = came.waits in let waits = handled.head in let outer = came.out in cc) in
         record {
@@ -302,6 +304,7 @@ module _ (shape : Shape) (size : IsClusterSize shape.nodes shape.spares) where
           packet = handled.packet;
           rest = outward handled.rest ++ to_tell shape.nodes pairs from to;
           split = ap (λ e. run ++ e ∷ []) handled.happened;
+          events = refl;
           handles = handled.handles;
           head = (seen_run shape run size both.0).mail from to
               ∙ ap (λ messages. outward messages ++ to_tell shape.nodes pairs from to) handled.head
@@ -317,17 +320,17 @@ module _ (shape : Shape) (size : IsClusterSize shape.nodes shape.spares) where
 
     -- so it is of the run with this event
     marked_more : AreMarked run → AreMarked (run ++ event ∷ [])
-    marked_more so front back from to is =
+    marked_more so front back from to mark is =
         let block : List FirmEvent = seen_event shape (pairs_after shape run) (event_after shape run event) in
-        let either : IsOfEither (firm_events_of shape run) block front (happens (deliver from to true)) back
-        = of_either (firm_events_of shape run) block front (happens (deliver from to true)) back (sym (events_push shape run event) ∙ is) in
+        let either : IsOfEither (firm_events_of shape run) block front (happens (deliver from to mark)) back
+        = of_either (firm_events_of shape run) block front (happens (deliver from to mark)) back (sym (events_push shape run event) ∙ is) in
         elim either [
-          | inl before ↦ marked_before front from to (so front before.0 from to before.1)
+          | inl before ↦ marked_before front from to mark (so front before.0 from to mark before.1)
           | inr here ↦
-              (let came = event_outward shape (pairs_after shape run) (event_after shape run event) here.0 from to back here.2 in
+              (let came = event_outward shape (pairs_after shape run) (event_after shape run event) here.0 from to mark back here.2 in
               let whole : firm_events_of shape run ≡ front
               = sym (append-nil (firm_events_of shape run)) ∙ ap (λ list. firm_events_of shape run ++ list) (sym came.first) ∙ sym here.1 in
-              subst (λ list. IsMarkedIn shape (run ++ event ∷ []) list from to) whole (marked_here from to here.0 came))
+              subst (λ list. IsMarkedIn shape (run ++ event ∷ []) list from to mark) whole (marked_here from to mark here.0 came))
         ]
 
   -- so it is of every wide run
@@ -340,4 +343,4 @@ module _ (shape : Shape) (size : IsClusterSize shape.nodes shape.spares) where
 
 -- the law
 pub marks_are_of_runs : MarksAreOfRuns
-marks_are_of_runs shape run front back from to size wide is = every_marked shape size run wide front back from to is
+marks_are_of_runs shape run front back from to mark size wide is = every_marked shape size run wide front back from to mark is

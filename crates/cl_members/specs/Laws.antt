@@ -1,5 +1,5 @@
 -- Every run of the cluster is a run of the firm system.
-use Rattle.std.specs.Prelude.{◌≡◌, ℕ, ◌<◌, true, List, [], ◌∷◌, ◌++◌, Some, length}
+use Rattle.std.specs.Prelude.{◌≡◌, ℕ, ◌<◌, Bool, true, List, [], ◌∷◌, ◌++◌, Some, length}
 use Rattle.std.specs.List.{flat_map}
 use Rattle.cl_cluster.specs.Alike.{pair_events_of, pairs_after}
 use Rattle.cl_front.specs.Front.{is_answered}
@@ -64,20 +64,22 @@ EventsGoOn = (shape : Shape) (run more : Run) → (rest : List FirmEvent) × (fi
 abbrev pub RunsAreQuiet : Type 0
 RunsAreQuiet = (shape : Shape) (run : Run) → IsClusterSize shape.nodes shape.spares → IsRun (system shape.nodes) shape run → AreQuiet shape (firm_events_of shape run)
 
--- where a message comes with the mark, an event of the run with the mark handles its packet
-pub record IsMarkedIn (shape : Shape) (run : Run) (front : List FirmEvent) (from to : ℕ) : Type 0 where
+-- where a message comes, an event of the run with the same mark handles its packet
+pub record IsMarkedIn (shape : Shape) (run : Run) (front : List FirmEvent) (from to : ℕ) (mark : Bool) : Type 0 where
   pub before : Run
   pub after : Run
   pub id : ℕ
   pub packet : Message
   pub rest : List Content
-  pub split : run ≡ before ++ (handle to id, true) ∷ after
+  pub split : run ≡ before ++ (handle to id, mark) ∷ after
+  -- what was before it was before that message
+  pub events : firm_events_of shape before ≡ front
   pub handles : packet_at (world_after (system shape.nodes) shape before) id ≡ Some packet
   pub head : (firm_world_after shape front).world.mail from to ≡ packet.content ∷ rest
   -- after it the transcript is as after that message
-  pub written : length (transcript_after shape (before ++ (handle to id, true) ∷ [])) ≡ length (transcript_of_firm shape (front ++ happens (deliver from to true) ∷ []))
+  pub written : length (transcript_after shape (before ++ (handle to id, mark) ∷ [])) ≡ length (transcript_of_firm shape (front ++ happens (deliver from to mark) ∷ []))
 
 -- so it is of every wide run
 abbrev pub MarksAreOfRuns : Type 0
-MarksAreOfRuns = (shape : Shape) (run : Run) (front back : List FirmEvent) (from to : ℕ) → IsClusterSize shape.nodes shape.spares → IsWideRun (system shape.nodes) shape run →
-    firm_events_of shape run ≡ front ++ happens (deliver from to true) ∷ back → IsMarkedIn shape run front from to
+MarksAreOfRuns = (shape : Shape) (run : Run) (front back : List FirmEvent) (from to : ℕ) (mark : Bool) → IsClusterSize shape.nodes shape.spares →
+    IsWideRun (system shape.nodes) shape run → firm_events_of shape run ≡ front ++ happens (deliver from to mark) ∷ back → IsMarkedIn shape run front from to mark

@@ -8,8 +8,8 @@ pub fn runs_are_firm_runs()
     ensures goes_on { EventsGoOn }
 {}
 
-/// A quiet moment of a run is one while nothing is on its way, and a message that comes with the mark is one that an event
-/// of the run with the mark handles.
+/// A quiet moment of a run is one while nothing is on its way, and a message that comes is one that an event of the run
+/// with the same mark handles.
 pub fn events_are_of_runs()
     ensures quiet { RunsAreQuiet }
     ensures marks { MarksAreOfRuns }
