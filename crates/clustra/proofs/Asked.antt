@@ -1,8 +1,8 @@
 -- What the words of the command line ask for.
-use Rattle.std.proofs.Common.{◌≡◌, ◌⊎◌, ◌↔◌, ℕ, ◌<◌, ◌≤◌, leb, Bool, true, false, cond, List, [], ◌∷◌, length, map, drop, get_or, Option, Some, None, IsSome, codes, inl, inr, refl, sym, ap, subst, ◌∙◌, arith}
+use Rattle.std.proofs.Common.{◌≡◌, ◌⊎◌, ◌↔◌, ℕ, ◌<◌, ◌≤◌, leb, Bool, true, false, cond, List, [], ◌∷◌, length, map, drop, get_or, Option, Some, None, IsSome, codes, slice_get, unwrap_or, inl, inr, refl, sym, ap, subst, ◌∙◌, arith}
 use Rattle.std.specs.Fmt.{decimal}
 use Rattle.std.specs.Str.{bytes_eq}
-use Rattle.std.proofs.lemmas.Bool.{and_from, and_parts, cases_eq, le-leb, leb-true}
+use Rattle.std.proofs.lemmas.Bool.{and_from, and_parts, both_ways, cases_eq, le-leb, leb-true}
 use Rattle.std.proofs.lemmas.Fmt.{decimal_injective}
 use Rattle.std.proofs.lemmas.Slice.Eq.{bytes_eq-Decides}
 use Rattle.cl_schedule.specs.declared.setting.Setting.{Setting}
@@ -19,6 +19,10 @@ use Rattle.clustra.specs.declared.ended.TheConstants.{NO_MEMORY, USAGE}
 -- texts that pass the comparison are one
 pub same_text : (xs ys : List ℕ) → bytes_eq xs ys ≡ true → xs ≡ ys
 same_text xs ys h = (bytes_eq-Decides xs ys).0 h
+
+-- and those that fail it are two
+pub other_text : (xs ys : List ℕ) → bytes_eq xs ys ≡ false → xs ≡ ys → ⊥
+other_text xs ys fails same = let is : bytes_eq xs ys ≡ true = (bytes_eq-Decides xs ys).1 same in absurd (both_ways (bytes_eq xs ys) fails is)
 
 -- a list of one item
 single : {X : Type 0} (view : X → List ℕ) (list : List X) (x : X) (text : List ℕ) → 1 ≤ length list → length list < 2 → x ≡ get_or list 0 x → view x ≡ text →
@@ -139,6 +143,50 @@ pub usage_of : (Ask : Setting → Type 0) (o : Option Setting) (status : ℕ) �
     (status ≡ USAGE) ↔ ((setting : Setting) → Ask setting → ⊥)
 usage_of Ask None status reads usage = (λ refused. reads, λ none. usage.1 refl)
 usage_of Ask (Some s) status reads usage = (λ refused. absurd (let no' : Some s ≡ None = usage.0 refused in cc), λ none. absurd (none s reads))
+
+-- which of the two the words may be, by the first of them
+
+first_text : (a b : List ℕ) (xs ys : List (List ℕ)) → ◌≡◌ {A = List (List ℕ)} (a ∷ xs) (b ∷ ys) → a ≡ b
+first_text a b xs ys same = cc
+
+first_word : {X : Type 0} (view : X → List ℕ) (list : List X) (x : X) (word : List ℕ) (rest : List (List ℕ)) → slice_get list 0 ≡ Some x →
+    map view list ≡ word ∷ rest → view x ≡ word
+first_word view [] x word rest at is = absurd (cc)
+first_word view (y ∷ list) x word rest at is =
+    let same : y ≡ x = ap (λ found. unwrap_or found y) at in
+    ap view (sym same) ∙ first_text (view y) word (map view list) rest is
+
+pub replay_is_no_serve : {X : Type 0} (view : X → List ℕ) (list : List X) (x : X) (setting : Setting) → slice_get list 0 ≡ Some x → view x ≡ codes "replay" →
+    AreServe (map view list) setting → ⊥
+replay_is_no_serve view list x setting at replay ask =
+    let same : codes "replay" ≡ codes "serve" = sym replay ∙ first_word view list x (codes "serve") (step_words ask.step) at ask.words_are in
+    let no : 6 ≡ 5 = ap (λ (word : List ℕ). length word) same in
+    absurd (omega (arith, no))
+
+pub other_is_no_replay : {X : Type 0} (view : X → List ℕ) (list : List X) (x : X) (setting : Setting) → slice_get list 0 ≡ Some x →
+    (view x ≡ codes "replay" → ⊥) → AreReplay (map view list) setting → ⊥
+other_is_no_replay view list x setting at other ask =
+    other (first_word view list x (codes "replay") (codes "--turns" ∷ decimal ask.turns ∷ step_words ask.step) at ask.words_are)
+
+pub none_is_no_replay : {X : Type 0} (view : X → List ℕ) (list : List X) (setting : Setting) → slice_get list 0 ≡ None → AreReplay (map view list) setting → ⊥
+none_is_no_replay view [] setting at ask = let no : [] ≡ codes "replay" ∷ codes "--turns" ∷ decimal ask.turns ∷ step_words ask.step = ask.words_are in absurd (cc)
+none_is_no_replay view (y ∷ list) setting at ask = absurd (cc)
+
+-- who refuses what is not of the one refuses what is of neither, where it is not of the other
+
+pub usage_of_serve : (words : List (List ℕ)) (status : ℕ) → ((setting : Setting) → AreReplay words setting → ⊥) →
+    (status ≡ USAGE) ↔ ((setting : Setting) → AreServe words setting → ⊥) → (status ≡ USAGE) ↔ ((setting : Setting) → AreAsked words setting → ⊥)
+usage_of_serve words status other usage = (
+  λ refused setting asked. elim asked [ inl is ↦ usage.0 refused setting is | inr is ↦ other setting is ],
+  λ none. usage.1 (λ setting is. none setting (inl is)),
+)
+
+pub usage_of_replay : (words : List (List ℕ)) (status : ℕ) → ((setting : Setting) → AreServe words setting → ⊥) →
+    (status ≡ USAGE) ↔ ((setting : Setting) → AreReplay words setting → ⊥) → (status ≡ USAGE) ↔ ((setting : Setting) → AreAsked words setting → ⊥)
+usage_of_replay words status other usage = (
+  λ refused setting asked. elim asked [ inl is ↦ other setting is | inr is ↦ usage.0 refused setting is ],
+  λ none. usage.1 (λ setting is. none setting (inr is)),
+)
 
 pub asked_for : (Ask : Setting → Type 0) (o : Option Setting) → ReadsWords Ask o → IsSome o → (setting : Setting) × Ask setting
 asked_for Ask None reads some = absurd (cc)

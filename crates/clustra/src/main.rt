@@ -59,6 +59,7 @@ fn run_words<R: Threads + Wait + Sync + AllocGlobal, S: Source, K: Sink>(
     source: &mut S,
     sink: &mut K,
 ) -> Ended
+    ensures usage { (result.status ≡ USAGE) ↔ ((setting : Setting) → AreAsked (map string_bytes words.now) setting → ⊥) }
     ensures untouched { result.kept ≡ None → (source.new ≡ source.old) × (sink.new ≡ sink.old) × ((result.status ≡ USAGE) ⊎ (result.status ≡ NO_MEMORY)) }
     ensures unkept { result.status ≡ USAGE → result.kept ≡ None }
     ensures status { (result.status ≡ USAGE → ⊥) → IsEndStatus result.status }
