@@ -38,7 +38,8 @@ fn status_of_fault(fault: InputFault) -> u8
 
 // The status of a run of which an event was refused.
 fn status_of_refusal(refused: Refused) -> u8
-    ensures spent { result ≡ SPENT → refused ≡ refusals.Spent }
+    ensures spent { (result ≡ SPENT) ↔ (refused ≡ refusals.Spent) }
+    ensures no_memory { (result ≡ NO_MEMORY) ↔ (refused ≡ refusals.NoMemory) }
     ensures status { (result ≡ NO_MEMORY) ⊎ (result ≡ SPENT) }
 {
     match refused {

@@ -24,7 +24,7 @@ pub returns-clause-answered : goal.returns-clause-answered
 returns-clause-answered g c =
     answered_for _ _ _ _ _ _ _ _ _ _ c.in-Ok.ensures
     (answered_refusal _ _ _ _ _ _ _ _ _ c.in-Err.refused c.requires.made
-    (c.in-Err.ensures cluster [] c.requires.made c.requires.whole) c.status_of_refusal.ensures.spent c.status_of_refusal.ensures.status)
+    (c.in-Err.ensures cluster [] c.requires.made c.requires.whole) c.status_of_refusal.ensures.spent.0 c.status_of_refusal.ensures.status)
 
 pub returns-clause-status : goal.returns-clause-status
 returns-clause-status g c = answer_of_refusal _ c.status_of_refusal.ensures.status
