@@ -4,6 +4,7 @@ use Rattle.std.specs.Option.{option_map}
 use Rattle.std.proofs.lemmas.Bool.{ne_eqb}
 use Rattle.std.proofs.lemmas.List.{append-nil, length-map, map-append, map-set, set-append_left}
 use Rattle.cl_post.specs.declared.event.Event.{Event}
+use Rattle.cl_post.specs.declared.event.Event.TheVariants as events
 use Rattle.cl_runs.specs.World.{Shape, Run, Happening, after, handle, quiet}
 use Rattle.cl_runs.proofs.Runs.{runs_go_on}
 use Rattle.cl_system.specs.System.{system}
@@ -13,11 +14,11 @@ use Rattle.cl_wire.specs.Message.{Message, message_of}
 use Rattle.cl_wire.specs.declared.packet.Packet.{Packet}
 use Rattle.cl_world.specs.Happenings.{happening_of}
 use Rattle.cl_world.specs.Mail.{forgotten, messages_in, to_living}
-use Rattle.cl_world.specs.Running.{IsLeftOf, IsNextSpent, IsRunOn, happened}
-use Rattle.cl_world.specs.World.{IsWorldOf, Moment, living_in, moment_after}
+use Rattle.cl_world.specs.Running.{AreOthersOf, IsLeftOf, IsNextSpent, IsRunOn, happened}
+use Rattle.cl_world.specs.World.{IsWhole, IsWorldOf, Moment, living_in, moment_after}
 use Rattle.cl_world.specs.declared.world.World.{World}
 use Rattle.cl_schedule.specs.Making.{AreMade, HasMade, HasRefused, IsSound, MayMeet, quiet_where, slots_met}
-use Rattle.cl_schedule.specs.Schedule.{IsFirstSpent}
+use Rattle.cl_schedule.specs.Schedule.{AreOthersIn, IsFirstSpent}
 use Rattle.cl_schedule.specs.Turns.{lines_in}
 use Rattle.cl_schedule.proofs.Notes.{some_within}
 
@@ -25,6 +26,19 @@ use Rattle.cl_schedule.proofs.Notes.{some_within}
 first_spent : (shape : Shape) (run : Run) (rest : List Event) → IsNextSpent (moment_after shape run) rest → IsFirstSpent shape run (map happening_of rest)
 first_spent shape run [] is = absurd is
 first_spent shape run (event ∷ rest) is = is
+
+-- the others are there but for the actor of the next event
+others_in : (shape : Shape) (made : World) (rest : List Event) → AreOthersOf shape made rest → AreOthersIn shape made (map happening_of rest)
+others_in shape made [] others = others
+others_in shape made (events.Handle actor id ∷ rest) others = others
+others_in shape made (events.Tick actor ∷ rest) others = others
+others_in shape made (events.Feed number text said ∷ rest) others = others
+others_in shape made (events.Quiet ∷ rest) others = others
+
+-- where no actor is missing, the others are there
+others_of_whole : (shape : Shape) (made : World) (rest : List Happening) → IsWhole shape made → AreOthersIn shape made rest
+others_of_whole shape made [] whole = whole
+others_of_whole shape made (happening ∷ rest) whole = record { front = λ ne. whole.front; members = λ actor within ne. whole.members actor within }
 
 -- what a list of events makes
 pub made_of : (shape : Shape) (before now : World) (run : Run) (list : List Event) (result : Result (Unit {0}) Refused) → IsRunOn shape before now run list result →
@@ -42,6 +56,7 @@ made_of shape before now run list (Err refused) has = record {
   rest = map happening_of has.rest;
   happens = has.made;
   left = has.left;
+  others = others_in shape now has.rest has.others;
   spent = λ e. first_spent shape (run ++ has.more) has.rest (has.spent e);
 }
 
@@ -73,7 +88,29 @@ nothing_refused shape made run happenings sound = record {
   rest = happenings;
   happens = refl;
   left = subst (λ r. IsLeftOf shape made r) (sym (append-nil run)) (left_of shape made run sound.is);
+  others = others_of_whole shape made happenings sound.whole;
   spent = λ e. absurd cc;
+}
+
+-- more was to happen, after what was refused
+
+others_before : (shape : Shape) (made : World) (rest second : List Happening) → AreOthersIn shape made rest → AreOthersIn shape made (rest ++ second)
+others_before shape made [] second whole = others_of_whole shape made second whole
+others_before shape made (happening ∷ rest) second others = others
+
+spent_before : (shape : Shape) (run : Run) (rest second : List Happening) → IsFirstSpent shape run rest → IsFirstSpent shape run (rest ++ second)
+spent_before shape run [] second is = absurd is
+spent_before shape run (happening ∷ rest) second is = is
+
+pub refused_before : (shape : Shape) (now : World) (run : Run) (first second : List Happening) (refused : Refused) → HasRefused shape now run first refused →
+    HasRefused shape now run (first ++ second) refused
+refused_before shape now run first second refused has = record {
+  more = has.more;
+  rest = has.rest ++ second;
+  happens = sym (append_assoc (happened has.more) has.rest second) ∙ ap (λ (hs : List Happening). hs ++ second) has.happens;
+  left = has.left;
+  others = others_before shape now has.rest second has.others;
+  spent = λ e. spent_before shape (run ++ has.more) has.rest second (has.spent e);
 }
 
 -- more happens, right after that
@@ -98,6 +135,7 @@ then_made shape middle now run slots first second (Err refused) has next = recor
   happens = ap (λ (hs : List Happening). hs ++ next.rest) (map-append (λ e. e.0) has.more next.more) ∙ append_assoc (happened has.more) (happened next.more) next.rest
       ∙ ap (λ (hs : List Happening). hs ++ (happened next.more ++ next.rest)) has.made ∙ ap (λ (hs : List Happening). first ++ hs) next.happens;
   left = subst (λ r. IsLeftOf shape now r) (append_assoc run has.more next.more) next.left;
+  others = next.others;
   spent = λ e. subst (λ r. IsFirstSpent shape r next.rest) (append_assoc run has.more next.more) (next.spent e);
 }
 

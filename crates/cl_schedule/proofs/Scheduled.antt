@@ -77,6 +77,7 @@ module _ (shape : Shape) (setting : Setting) (fates : FatesOf) (before now : Wor
     rest = has.rest;
     happens = has.happens ∙ ap (λ (over : Bool). to_happen shape setting fates so_far.course over) (sym on);
     left = has.left;
+    others = has.others;
     spent = has.spent;
     within = λ e. (may_turn on within).within;
   }
@@ -112,6 +113,7 @@ module _ (shape : Shape) (setting : Setting) (fates : FatesOf) (before now : Wor
         rest = has.rest;
         happens = has.happens ∙ ap (λ (done : Bool). to_happen shape setting fates so_far.course done) (sym over);
         left = has.left;
+        others = has.others;
         spent = has.spent;
         within = λ on. absurd (both_ways (is_over shape so_far.course) on over);
       }

@@ -16,7 +16,7 @@ use Rattle.cl_world.specs.World.{IsWorldOf, IsWhole, living_in, moment_after}
 use Rattle.cl_world.specs.declared.world.World.{World}
 use Rattle.cl_schedule.specs.Asked.{NotesAsked}
 use Rattle.cl_schedule.specs.Course.{Course, Candidate, packet, line, time, is_quiet, or_else, waiting_actors}
-use Rattle.cl_schedule.specs.Schedule.{IsFirstSpent}
+use Rattle.cl_schedule.specs.Schedule.{AreOthersIn, IsFirstSpent}
 use Rattle.cl_schedule.specs.Turns.{FatesOf, IsTurn, MayTurn, next_events, taken}
 use Rattle.cl_schedule.specs.declared.setting.Setting.{Setting}
 use Rattle.cl_schedule.specs.declared.progress.Progress.{Progress}
@@ -91,6 +91,7 @@ pub record HasRefused (shape : Shape) (after : World) (run : Run) (happenings : 
   pub rest : List Happening
   pub happens : happened more ++ rest ≡ happenings
   pub left : IsLeftOf shape after (run ++ more)
+  pub others : AreOthersIn shape after rest
   pub spent : refused ≡ Spent → IsFirstSpent shape (run ++ more) rest
 
 -- what these happenings make of a world

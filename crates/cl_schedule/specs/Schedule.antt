@@ -1,9 +1,11 @@
 -- What a call of the schedule makes of a world.
 use Rattle.std.specs.Prelude.{◌≡◌, ℕ, ◌<◌, Bool, true, false, List, [], ◌∷◌, ◌++◌, Result, Ok, Err}
-use Rattle.cl_runs.specs.World.{Shape, Run, Happening, quiet}
+use Rattle.cl_runs.specs.World.{Shape, Run, Happening, handle, tick, feed, quiet}
 use Rattle.cl_ranges.specs.Spent.{is_spent}
+use Rattle.cl_steps.specs.declared.actors.TheConstants.{FRONT}
 use Rattle.cl_types.specs.declared.answers.Refused.{Refused}
 use Rattle.cl_types.specs.declared.answers.Refused.TheVariants.{Spent}
+use Rattle.cl_world.specs.Actors.{AreAllThere, AreOthersThere}
 use Rattle.cl_world.specs.Mail.{messages_in}
 use Rattle.cl_world.specs.Running.{IsLeftOf, happened}
 use Rattle.cl_world.specs.World.{IsWorldOf, IsWhole, moment_after}
@@ -34,6 +36,18 @@ abbrev pub IsFirstSpent : Shape → Run → List Happening → Type 0
 IsFirstSpent shape run [] = ⊥
 IsFirstSpent shape run (happening ∷ rest) = is_spent (moment_after shape run) happening false ≡ true
 
+-- the actor whose step this is
+abbrev pub actor_in : Happening → ℕ
+actor_in (handle actor id) = actor
+actor_in (tick actor) = actor
+actor_in (feed number text said) = FRONT
+actor_in quiet = FRONT
+
+-- each actor is there but that of the next of these
+abbrev pub AreOthersIn : Shape → World → List Happening → Type 0
+AreOthersIn shape made [] = AreAllThere shape made.actors
+AreOthersIn shape made (happening ∷ rest) = AreOthersThere shape made.actors (actor_in happening)
+
 -- the turns are done
 pub record HasScheduled (shape : Shape) (setting : Setting) (fates : FatesOf) (before after : World) (run : Run) (lines : List (List ℕ)) (finish : Finish) : Type 0 where
   pub last : Course
@@ -49,6 +63,7 @@ pub record HasBrokenOff (shape : Shape) (setting : Setting) (fates : FatesOf) (b
   pub rest : List Happening
   pub happens : happened more ++ rest ≡ to_happen shape setting fates last (is_over shape last)
   pub left : IsLeftOf shape after (last.run ++ more)
+  pub others : AreOthersIn shape after rest
   pub spent : refused ≡ Spent → IsFirstSpent shape (last.run ++ more) rest
   -- and there were turns left, where the run was not over
   pub within : is_over shape last ≡ false → last.turns < setting.turns

@@ -6,9 +6,9 @@ use Rattle.cl_guarantee.specs.Laws.{RunsAreSerializable, ReplicasAgree, EachHasM
 use Rattle.cl_members.specs.Members.{feeds_in, history_after, transcript_after}
 use Rattle.cl_node.specs.declared.machine.Node.{Node}
 use Rattle.cl_roster.specs.Roster.{IsClusterSize}
-use Rattle.cl_runs.specs.World.{IsRun, Run, Shape, quiet}
+use Rattle.cl_runs.specs.World.{Happening, IsRun, Run, Shape, quiet}
 use Rattle.cl_runs.proofs.Runs.{runs_are_wide}
-use Rattle.cl_schedule.specs.Schedule.{to_happen}
+use Rattle.cl_schedule.specs.Schedule.{AreOthersIn, to_happen}
 use Rattle.cl_schedule.specs.declared.setting.Setting.{Setting}
 use Rattle.cl_serial.specs.Bytes.{FeedsFirstLines, lines_of}
 use Rattle.cl_serial.specs.Serial.{EveryLineAnswered, Serializable}
@@ -125,6 +125,18 @@ all_there world kept run is front nodes whole = record {
       subst (λ (items : List (Option Node)). IsSome (get_or items actor None)) (sym nodes) (whole.members actor below);
 }
 
+-- what is kept of a world has the actors that the world has
+others_there : (world : World) (kept : Kept) (run : Run) → IsKeptOf cluster kept run → is_some kept.front ≡ is_here world.actors.front →
+    kept.nodes.items ≡ world.actors.members.items → (rest : List Happening) → AreOthersIn cluster world rest → HasActorsBeside kept rest
+others_there world kept run is front nodes [] whole = all_there world kept run is front nodes whole
+others_there world kept run is front nodes (happening ∷ rest) others = record {
+  front = λ ne. front ∙ others.front ne;
+  nodes = λ actor within ne.
+      let counted = is.counted in
+      let below : actor < cluster.nodes + cluster.spares = omega (arith, counted, within) in
+      subst (λ (items : List (Option Node)). IsSome (get_or items actor None)) (sym nodes) (others.members actor below ne);
+}
+
 -- a run that was served, and what is kept of it
 pub ran_of : {S K : Type 0} (left_of : S → Option (List ℕ)) (source_faults : S → ℕ) (written_of flushed_of : K → Option (List ℕ)) (sink_faults : K → ℕ)
     (source source' : S) (sink sink' : K) (setting : Setting) (status : ℕ) (world : World) (kept : Kept) → RunLaws →
@@ -165,6 +177,7 @@ ran_of left_of source_faults written_of flushed_of sink_faults source source' si
             (feeds_first laws setting status served.read run served.answered.unfinished is_run served.answered.made);
         all_lines = λ done. ap fed_lines (sym shown) ∙ feeds_all laws setting status served.read run served.answered.unfinished is_run served.answered.made done;
       };
+      others = others_there world kept run is kept_front nodes served.answered.made.rest served.answered.others;
       source_ends = served.source_ends;
       sink_ends = subst (λ (t : List TranscriptEntry). EndsSink written_of flushed_of sink_faults sink sink' status
           (full_text_with (texts_in served.read) t served.answered.unfinished)) shown served.answered.sink_ends;

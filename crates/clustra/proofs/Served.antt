@@ -3,9 +3,9 @@ use Rattle.std.proofs.Common.{◌≡◌, ◌⊎◌, ◌↔◌, ℕ, ◌≤◌, B
 use Rattle.std.proofs.lemmas.List.{append-nil}
 use Rattle.std.specs.Io.KnownBytes.{IsAtEnd}
 use Rattle.cl_io.specs.Faults.{one_more}
-use Rattle.cl_runs.specs.World.{Run, quiet, world_after}
+use Rattle.cl_runs.specs.World.{Happening, Run, quiet, world_after}
 use Rattle.cl_schedule.specs.Course.{Course}
-use Rattle.cl_schedule.specs.Schedule.{HasScheduled, IsScheduled, to_happen}
+use Rattle.cl_schedule.specs.Schedule.{AreOthersIn, HasScheduled, IsScheduled, to_happen}
 use Rattle.cl_schedule.specs.Turns.{AreTurns, first_course, is_over}
 use Rattle.cl_schedule.specs.declared.setting.Finish.{Finish}
 use Rattle.cl_schedule.specs.declared.setting.Finish.TheVariants.{Quiet, TurnsMade}
@@ -62,6 +62,11 @@ no_slots (slot ∷ slots) kept = absurd kept
 pub no_mail : (world : World) → IsWorldOf cluster world [] → messages_in world.mail ≡ []
 unfolding world_after
 no_mail world is = no_slots (messages_in world.mail) is.now.mail
+
+-- where no actor is missing, the others are there
+others_of_whole : (world : World) (rest : List Happening) → IsWhole cluster world → AreOthersIn cluster world rest
+others_of_whole world [] whole = whole
+others_of_whole world (happening ∷ rest) whole = record { front = λ ne. whole.front; members = λ actor within ne. whole.members actor within }
 
 -- nothing was made of the lines
 pub none_made : (setting : Setting) (status : ℕ) (lines : List (List ℕ)) → (status ≡ READ_FAULT) ⊎ ((status ≡ TOO_MUCH_INPUT) ⊎ (status ≡ NO_MEMORY)) →
@@ -158,6 +163,7 @@ module _ {K : Type 0} (written_of flushed_of : K → Option (List ℕ)) (faults_
           exactly = λ goes all. absurd (let no' : true ≡ false = sym h.ends.0 ∙ goes in cc);
           spent = λ spent. absurd ((write_not false status is).0 spent);
         };
+        others = h.whole;
         sink_ends = subst (λ (t : List TranscriptEntry). EndsSink written_of flushed_of faults_of sink sink' status (full_text_with lines t false))
             (same run h.ends.1.1) ends;
       }
@@ -187,6 +193,7 @@ module _ {K : Type 0} (written_of flushed_of : K → Option (List ℕ)) (faults_
           exactly = λ goes all. write_exactly status is;
           spent = λ spent. absurd ((write_not true status is).0 spent);
         };
+        others = others_of_whole after (to_happen cluster setting always h.last (is_over cluster h.last)) h.whole;
         sink_ends = subst (λ (t : List TranscriptEntry). EndsSink written_of flushed_of faults_of sink sink' status (full_text_with lines t true))
             (same h.last.run h.ends.1.1) ends;
       }
@@ -252,6 +259,7 @@ answered_refusal written_of flushed_of faults_of setting status lines before aft
         exactly = λ goes all. let few = h.within goes in absurd (omega (arith, few, all));
         spent = λ many. h.spent (spent many);
       };
+      others = h.others;
       sink_ends = sink_silent written_of flushed_of faults_of sink status (full_text_with lines (transcript_after cluster run) false) (refusal_silent status either)
           (λ fault. absurd (elim fault [
             | inl failed ↦ refusal_not status READ_FAULT
@@ -280,6 +288,7 @@ answered_none written_of flushed_of faults_of setting status lines world sink is
   has_made = inl is;
   whole = λ short spent. whole;
   made = none_made setting status lines fault;
+  others = others_of_whole world (none_made setting status lines fault).rest whole;
   sink_ends = sink_silent written_of flushed_of faults_of sink status (full_text_with lines (transcript_after cluster []) false) (fault_silent status fault)
       (λ either. append-nil (full_text (transcript_after cluster [])) ∙ first_text);
 }

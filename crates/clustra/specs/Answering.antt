@@ -1,6 +1,7 @@
 -- How a run is served, step by step. No public clause cites this module.
 use Rattle.std.specs.Prelude.{◌≡◌, ◌⊎◌, ◌↔◌, ℕ, Bool, if◌then◌else◌, List, [], Option}
 use Rattle.cl_runs.specs.World.{Run}
+use Rattle.cl_schedule.specs.Schedule.{AreOthersIn}
 use Rattle.cl_schedule.specs.declared.setting.Setting.{Setting}
 use Rattle.cl_members.specs.Members.{transcript_after}
 use Rattle.cl_world.specs.Running.{IsLeftOf}
@@ -35,6 +36,7 @@ pub record Answered {K : Type 0} (written_of flushed_of : K → Option (List ℕ
   pub has_made : HasMade world run
   pub whole : (status ≡ NO_MEMORY → ⊥) → (status ≡ SPENT → ⊥) → IsWhole cluster world
   pub made : IsMade setting status lines run unfinished
+  pub others : AreOthersIn cluster world made.rest
   pub sink_ends : EndsSink written_of flushed_of faults_of before after status (full_text_with lines (transcript_after cluster run) unfinished)
 
 -- a source was read, and its lines were answered

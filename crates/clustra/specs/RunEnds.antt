@@ -1,5 +1,5 @@
 -- How a run ends: what it did with its source and its sink, and what is kept of it.
-use Rattle.std.specs.Prelude.{◌≡◌, ℕ, ◌<◌, ◌≤◌, ◌⊎◌, Bool, List, [], ◌++◌, Option, None, IsSome, length, slice_index_or}
+use Rattle.std.specs.Prelude.{◌≡◌, ◌≢◌, ℕ, ◌<◌, ◌≤◌, ◌⊎◌, Bool, List, [], ◌∷◌, ◌++◌, Option, None, IsSome, length, slice_index_or}
 use Rattle.std.specs.Io.KnownBytes.{IsAtEnd}
 use Rattle.cl_guarantee.specs.Causes.{TrueCauses}
 use Rattle.cl_guarantee.specs.Held.{AreHeldAfter, HaveMembers, LogsAreShared, MembersAreEqual}
@@ -7,11 +7,13 @@ use Rattle.cl_guarantee.specs.Whole.{BrokenStaysOut, UnbrokenReplays}
 use Rattle.cl_io.specs.Faults.{one_more}
 use Rattle.cl_log.specs.LogEntry.{LogEntry}
 use Rattle.cl_members.specs.Members.{transcript_after, history_after, IsReplicaAfter}
-use Rattle.cl_runs.specs.World.{Shape, Run, world_after, IsQuiet, IsRun}
+use Rattle.cl_runs.specs.World.{Shape, Run, Happening, world_after, IsQuiet, IsRun}
+use Rattle.cl_schedule.specs.Schedule.{actor_in}
 use Rattle.cl_schedule.specs.declared.setting.Setting.{Setting}
 use Rattle.cl_serial.specs.Serial.{Serializable, EveryLineAnswered}
 use Rattle.cl_serial.specs.Transcript.{transcript_of}
 use Rattle.cl_settled.specs.Settled.{AgreesWithHistory}
+use Rattle.cl_steps.specs.declared.actors.TheConstants.{FRONT}
 use Rattle.cl_system.specs.System.{system}
 use Rattle.cl_types.specs.AppendOnlyList.{entries}
 use Rattle.cl_types.specs.declared.operations.TxnId.{TxnId}
@@ -71,6 +73,16 @@ pub record HasAllActors (kept : Kept) : Type 0 where
   pub front : IsSome kept.front
   pub nodes : (actor : ℕ) → actor < length kept.nodes.items → IsSome (slice_index_or kept.nodes.items actor None)
 
+-- all actors are there but perhaps this one
+pub record HasOtherActors (kept : Kept) (gone : ℕ) : Type 0 where
+  pub front : gone ≢ FRONT → IsSome kept.front
+  pub nodes : (actor : ℕ) → actor < length kept.nodes.items → gone ≢ actor → IsSome (slice_index_or kept.nodes.items actor None)
+
+-- all actors are there but perhaps that of the next of these
+abbrev pub HasActorsBeside : Kept → List Happening → Type 0
+HasActorsBeside kept [] = HasAllActors kept
+HasActorsBeside kept (happening ∷ rest) = HasOtherActors kept (actor_in happening)
+
 -- a run that ended with this status, and what is kept of it
 pub record Ran {S K : Type 0} (left_of : S → Option (List ℕ)) (source_faults : S → ℕ) (written_of flushed_of : K → Option (List ℕ)) (sink_faults : K → ℕ)
     (source_before source_after : S) (sink_before sink_after : K) (setting : Setting) (status : ℕ) (kept : Kept) : Type 0 where
@@ -98,6 +110,8 @@ pub record Ran {S K : Type 0} (left_of : S → Option (List ℕ)) (source_faults
   pub read : List ℕ
   pub unfinished : Bool
   pub reads : ReadsInput setting status (left_of source_before) (left_of source_after) read run (transcript_of kept.transcript) unfinished
+  -- at every status each actor is there but that of the event that was to happen next
+  pub others : HasActorsBeside kept reads.made.rest
   pub source_ends : EndsSource left_of source_faults source_before source_after status
   -- and its text is what was written
   pub sink_ends : EndsSink written_of flushed_of sink_faults sink_before sink_after status (full_text_with (texts_in read) (transcript_of kept.transcript) unfinished)
