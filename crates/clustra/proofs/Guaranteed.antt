@@ -24,7 +24,7 @@ use Rattle.cl_world.specs.declared.kept.Kept.{Kept}
 use Rattle.cl_world.specs.declared.world.World.{World}
 use Rattle.clustra.specs.Answering.{HasMade, Served}
 use Rattle.clustra.specs.Run.{IsMade, always, cluster, full_text_with, texts_in}
-use Rattle.clustra.specs.RunEnds.{EndsSink, GoesOn, HasAllActors, IsGuaranteed, Ran}
+use Rattle.clustra.specs.RunEnds.{EndsSink, GoesOn, HasActorsBeside, HasAllActors, IsGuaranteed, Ran}
 use Rattle.clustra.specs.declared.ended.TheConstants.{DONE}
 use Rattle.clustra.proofs.Feeds.{all_fed, first_feeds}
 use Rattle.clustra.proofs.Rests.{first_run, rests_after}

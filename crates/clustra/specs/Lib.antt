@@ -1,4 +1,5 @@
 pub mod Answering
+pub mod Constants
 pub mod Counting
 pub mod Input
 pub mod Pending

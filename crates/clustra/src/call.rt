@@ -1,6 +1,7 @@
 //! The top calls of the program.
 ghost use Rattle.std.specs.Prelude.{◌≡◌, ◌⊎◌, ◌↔◌, map, None, IfSome, IsSome, string_bytes};
 ghost use Rattle.cl_schedule.specs.declared.setting.Setting.{Setting};
+ghost use Rattle.clustra.specs.Constants.{HaveValues};
 ghost use Rattle.clustra.specs.Run.{IsEndStatus};
 ghost use Rattle.clustra.specs.RunEnds.{Ran};
 ghost use Rattle.clustra.specs.Words.{AreServe, AreReplay};
@@ -60,6 +61,9 @@ pub fn clustra<R: Threads + Wait + Sync, S: Source, K: Sink, G: Gate + Sync>(
     ensures asked { IfSome result.kept (λ _. (setting : Setting) × AreServe (map string_bytes words.now) setting) }
     ensures ran { (setting : Setting) → AreServe (map string_bytes words.now) setting → IfSome result.kept (λ kept.
         Ran S.left S.faults K.written K.flushed K.faults source.old source.new sink.old sink.new setting result.status kept) }
+
+    // The greatest numbers, past which an event is refused, are these.
+    ensures constants { HaveValues }
 {
     serve_words(alloc, serve_setting(words), source, sink)
 }
@@ -84,6 +88,9 @@ pub fn clustra_replay<S: Source, K: Sink>(
     ensures asked { IfSome result.kept (λ _. (setting : Setting) × AreReplay (map string_bytes words.now) setting) }
     ensures ran { (setting : Setting) → AreReplay (map string_bytes words.now) setting → IfSome result.kept (λ kept.
         Ran S.left S.faults K.written K.flushed K.faults source.old source.new sink.old sink.new setting result.status kept) }
+
+    // The greatest numbers, past which an event is refused, are these.
+    ensures constants { HaveValues }
 {
     serve_words(alloc, replay_setting(words), source, sink)
 }

@@ -1,4 +1,5 @@
 -- The words ask for one run at most.
+use Rattle.std.proofs.Common.{refl}
 use Rattle.clustra.specs.Words.{AreReplay}
 use Rattle.clustra.proofs.Asked.{asked_if, ran_asked, replay_only, usage_of}
 use Rattle.clustra.proofs.call.clustra_replay.Goals as goal
@@ -11,3 +12,6 @@ returns-clause-asked g c = asked_if _ (AreReplay _) c.replay_setting.result c.re
 
 pub returns-clause-ran : goal.returns-clause-ran
 returns-clause-ran g c = ran_asked (AreReplay _) _ c.replay_setting.result (replay_only _) c.replay_setting.ensures c.serve_words.ensures.ran
+
+pub returns-clause-constants : goal.returns-clause-constants
+returns-clause-constants g c = record { transactions = refl; messages = refl; records = refl }
