@@ -1,4 +1,5 @@
 //! Two primaries that are called message by message, and what they are to send.
+use cl_log::LogRec;
 use cl_roster::Roster;
 use cl_samples::{NoSample, is_value, key, table, value};
 use cl_steps::{Outgoing, Steps};
@@ -23,6 +24,7 @@ pub(crate) const TWO: TxnId = TxnId {
 // A message about one transaction. A number is a command's; key `a` is of virtual node 0, and `b` of 1.
 #[derive(Clone, Copy)]
 pub(crate) enum Input {
+    Bare,
     Begin(u32),
     Get(u32, &'static [u8]),
     Put(u32, &'static [u8]),
@@ -39,6 +41,14 @@ pub(crate) enum Input {
     LogAck(u32, u64),
 }
 
+// The kind of a record that is shipped.
+#[derive(Clone, Copy)]
+pub(crate) enum Record {
+    Set,
+    Prepared,
+    Decide,
+}
+
 // A message that a step gives.
 #[derive(Clone, Copy)]
 pub(crate) enum Sent {
@@ -53,32 +63,35 @@ pub(crate) enum Sent {
     SaysStored(u32),
     Committed(u32),
     Aborted(u32, AbortCause),
-    Log(u32, u64),
+    Log(u32, u64, Record),
     LogAck(u32, u64),
 }
 
-// The primaries of virtual nodes 0 and 1, on the nodes of the same number.
-#[derive(Drop)]
-pub(crate) struct Cluster {
-    pub(crate) roster: Roster,
-    pub(crate) zero: Vnode,
-    pub(crate) one: Vnode,
+// What a primary is to do.
+#[derive(Clone, Copy)]
+pub(crate) enum Turn {
+    // It takes a message about the transaction from the sender, and sends this and nothing else; whether the
+    // transaction becomes firm.
+    Takes(u32, TxnId, Input, &'static [(u32, Sent)], bool),
+    // It does not admit the message about the transaction.
+    Refuses(TxnId, Input),
+    // It has this value at the key of table `t`.
+    Has(&'static [u8], Option<&'static [u8]>),
+    // It is not busy.
+    Rests,
 }
 
-pub(crate) fn new_cluster(alloc: Global, standby: Option<u32>) -> Cluster {
-    Cluster {
-        roster: Roster::new(alloc, 4, 0),
-        zero: Vnode::new(alloc, 0, 4, standby),
-        one: Vnode::new(alloc, 1, 4, standby),
-    }
-}
+// A name, the virtual node, and what its primary is to do.
+#[derive(Clone, Copy)]
+pub(crate) struct Row(pub(crate) &'static str, pub(crate) u32, pub(crate) Turn);
 
 fn put(alloc: Global) -> Result<Op, NoSample> {
     Ok(Op::Put(value(alloc, b"x")?))
 }
 
-pub(crate) fn message(alloc: Global, txn: TxnId, input: Input) -> Result<Body, NoSample> {
+fn message(alloc: Global, txn: TxnId, input: Input) -> Result<Body, NoSample> {
     Ok(match input {
+        Input::Bare => Body::Bare,
         Input::Begin(number) => Body::Command(txn.session % 4, txn, number, Command::Begin),
         Input::Get(number, bytes) => {
             let what = Command::Work(table(b"t")?, key(bytes)?, Op::Get);
@@ -120,22 +133,18 @@ fn take(
     }
 }
 
-// The primary of the virtual node takes the message.
+// The primary takes the message.
 pub(crate) fn step(
     rt: &impl Abort,
     alloc: Global,
-    cluster: &mut Cluster,
-    at: u32,
+    roster: &Roster,
+    vnode: &mut Vnode,
     from: u32,
     txn: TxnId,
     input: Input,
 ) -> Result<Steps, NoSample> {
     let body = message(alloc, txn, input)?;
-    if at == 0 {
-        take(rt, &mut cluster.zero, &cluster.roster, from, &body)
-    } else {
-        take(rt, &mut cluster.one, &cluster.roster, from, &body)
-    }
+    take(rt, vnode, roster, from, &body)
 }
 
 fn is_answer(v: u32, number: u32, answer: &Answer, wanted: Sent) -> bool {
@@ -160,6 +169,15 @@ fn is_said(number: u32, outcome: &Outcome, wanted: Sent) -> bool {
     }
 }
 
+fn is_record(content: &LogRec, txn: TxnId, wanted: Record) -> bool {
+    match (content, wanted) {
+        (LogRec::Set(of, ..), Record::Set)
+        | (LogRec::Prepared(of), Record::Prepared)
+        | (LogRec::Decide(of), Record::Decide) => *of == txn,
+        _ => false,
+    }
+}
+
 fn is_message(body: &Body, txn: TxnId, wanted: Sent) -> bool {
     match (body, wanted) {
         (Body::Ask(v, of, number, _, _, Op::Get), Sent::AskGet(w, wanted))
@@ -177,8 +195,8 @@ fn is_message(body: &Body, txn: TxnId, wanted: Sent) -> bool {
         (Body::Outcome(of, number, outcome), wanted) => {
             *of == txn && is_said(*number, outcome, wanted)
         }
-        (Body::Log(v, number, content), Sent::Log(w, wanted)) => {
-            *v == w && content.txn() == txn && *number == wanted
+        (Body::Log(v, number, content), Sent::Log(w, wanted, record)) => {
+            *v == w && *number == wanted && is_record(content, txn, record)
         }
         (Body::LogAck(v, number), Sent::LogAck(w, wanted)) => *v == w && *number == wanted,
         _ => false,
@@ -203,7 +221,75 @@ pub(crate) fn gave(steps: &Steps, txn: TxnId, wanted: &[(u32, Sent)], firm: bool
 }
 
 // Whether a key of table `t` has this value.
-pub(crate) fn stands(vnode: &Vnode, bytes: &[u8], wanted: Option<&[u8]>) -> Result<bool, NoSample> {
+fn stands(vnode: &Vnode, bytes: &[u8], wanted: Option<&[u8]>) -> Result<bool, NoSample> {
     let (_, found) = vnode.store().get(&table(b"t")?, &key(bytes)?);
     Ok(is_value(found, wanted))
+}
+
+fn refuses(
+    alloc: Global,
+    roster: &Roster,
+    vnode: &Vnode,
+    txn: TxnId,
+    input: Input,
+) -> Result<bool, NoSample> {
+    let body = message(alloc, txn, input)?;
+    Ok(!vnode.admits(roster, &body))
+}
+
+// Whether the primary does what it is to do.
+fn does(
+    rt: &impl Abort,
+    alloc: Global,
+    roster: &Roster,
+    vnode: &mut Vnode,
+    turn: Turn,
+) -> Result<bool, NoSample> {
+    match turn {
+        Turn::Takes(from, txn, input, sent, firm) => {
+            let steps = step(rt, alloc, roster, vnode, from, txn, input)?;
+            Ok(gave(&steps, txn, sent, firm))
+        }
+        Turn::Refuses(txn, input) => refuses(alloc, roster, vnode, txn, input),
+        Turn::Has(bytes, wanted) => stands(vnode, bytes, wanted),
+        Turn::Rests => Ok(!vnode.busy()),
+    }
+}
+
+fn all_hold(
+    rt: &impl Abort,
+    alloc: Global,
+    roster: &Roster,
+    zero: &mut Vnode,
+    one: &mut Vnode,
+    rows: &[Row],
+) -> Result<(), NoSample> {
+    for row in rows {
+        let Row(name, at, turn) = *row;
+        let holds = if at == 0 {
+            does(rt, alloc, roster, zero, turn)?
+        } else {
+            does(rt, alloc, roster, one, turn)?
+        };
+        assert!(rt; holds, "{name}");
+    }
+    Ok(())
+}
+
+fn hold_with_one(
+    rt: &impl Abort,
+    alloc: Global,
+    roster: &Roster,
+    zero: &mut Vnode,
+    rows: &[Row],
+) -> Result<(), NoSample> {
+    let mut one = Vnode::new(alloc, 1, 4, None);
+    all_hold(rt, alloc, roster, zero, &mut one, rows)
+}
+
+// The rows hold in turn of the primaries of virtual nodes 0 and 1, on the nodes of the same number.
+pub(crate) fn hold(rt: &impl Abort, alloc: Global, rows: &[Row]) -> Result<(), NoSample> {
+    let roster = Roster::new(alloc, 4, 0);
+    let mut zero = Vnode::new(alloc, 0, 4, None);
+    hold_with_one(rt, alloc, &roster, &mut zero, rows)
 }
