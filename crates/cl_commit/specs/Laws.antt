@@ -17,7 +17,7 @@ abbrev pub EventsKeepWhole : Type 0
 EventsKeepWhole = (shape : Shape) (world : ReplicaWorld) (event : QueueEvent) → IsClusterSize shape.nodes shape.spares → IsSoundWorld shape world → CommitsWhole shape world → MayReplicas world event →
     CommitsWhole shape (after_replica_event shape world event)
 
--- a transaction that was aborted stays so, and never becomes a member
+-- each such event leaves a transaction that was aborted so, and no member
 abbrev pub AbortedStayOut : Type 0
 AbortedStayOut = (shape : Shape) (world : ReplicaWorld) (event : QueueEvent) (txn : TxnId) → IsClusterSize shape.nodes shape.spares → IsSoundWorld shape world → CommitsWhole shape world → MayReplicas world event →
     IsSoFar shape.nodes world txn aborted → IsSoFar shape.nodes (after_replica_event shape world event) txn aborted

@@ -92,7 +92,7 @@ pub record Lives (shape : Shape) (world : ReplicaWorld) (txn : TxnId) : Type 0 w
   pub so_far : IsSoFar shape.nodes world txn life
   pub stands : (v : ℕ) → v < shape.nodes → (standing : Standing) × StandsSo v txn (part_view shape.nodes world txn v) standing × MayStand life v standing
 
--- an outcome on its way is true: COMMITTED is of a member, ABORTED of one that never becomes a member
+-- an outcome on its way is true: COMMITTED is of a member, ABORTED of a transaction that was aborted
 abbrev pub IsTrueOutcome : Shape → ReplicaWorld → Content → Type 0
 IsTrueOutcome shape world (Outcome txn number Committed) = IsSoFar shape.nodes world txn committed
 IsTrueOutcome shape world (Outcome txn number (Aborted cause)) = IsSoFar shape.nodes world txn aborted

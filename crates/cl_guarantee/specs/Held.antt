@@ -27,7 +27,7 @@ abbrev pub LogsAreShared : Shape → Run → Type 0
 LogsAreShared shape run = (v : ℕ) (primary standby : ReplicaState) → IsReplicaAfter shape run v primary → IsStandbyAfter shape run v standby →
     (rest : List LogEntry) × (primary.part.log ≡ standby.part.log ++ rest)
 
--- both members of the home of a transaction have its decision, and both logs of each virtual node have its locks, writes and votes there
+-- both members of the home of a transaction have its decision, and of its locks, writes and votes the standby's log of each virtual node has what the primary's has
 pub record IsHeldAfter (shape : Shape) (run : Run) (txn : TxnId) : Type 0 where
   pub at_primary : (primary : ReplicaState) → IsReplicaAfter shape run (home_in shape.nodes txn) primary → is_among txn primary.decisions ≡ true
   pub at_standby : (standby : ReplicaState) → IsStandbyAfter shape run (home_in shape.nodes txn) standby → is_among txn standby.decisions ≡ true

@@ -8,19 +8,21 @@ pub fn runs_are_serializable()
 {}
 
 /// After every run the log of each primary settles to the map after the history. Its store and its locks
-/// are those of its log, and no two of its locks conflict. A member holds its locks until its End, and is never undone.
+/// are those of its log, and no two transactions hold conflicting ones. A member holds the lock of each of its operations
+/// until its End. Nothing of it is undone, and none of it ends without commit.
 pub fn replicas_agree_with_history()
     ensures { ReplicasAgree }
 {}
 
-/// The history and the logs of a longer run begin with those of the run: what was decided stays decided.
+/// The history and each primary's log of a longer run begin with those of the run: what was decided stays decided.
 pub fn runs_keep_what_they_decided()
     ensures histories { HistoriesGoOn }
     ensures logs { LogsGoOn }
 {}
 
 /// Each reply ABORTED of a run names a true cause: CLIENT of ABORT, CONFLICT of an operation that met a lock of another
-/// transaction, MEMORY where a participant of the transaction found no memory.
+/// transaction, MEMORY of an operation where, before the reply, an event with its mark handled a packet that asks for the
+/// transaction. With its mark a participant gives up for want of memory; no clause says when.
 pub fn causes_are_true()
     ensures { RunsNameTrueCauses }
 {}
@@ -31,8 +33,9 @@ pub fn lines_are_answered()
     ensures rest { RestAnswersAll }
 {}
 
-/// After every run each virtual node has a primary and a standby, whose log is a first part of the primary's. Both members hold what is firm: its decision at its home, its locks,
-/// writes and votes wherever it has some. At each quiet moment both members are equal.
+/// After every run each virtual node has a primary and a standby, whose log is a first part of the primary's. Of a firm
+/// transaction both members of its home have the decision. Of its locks, writes and votes each standby's log has what the
+/// primary's has. At each quiet moment both members are equal, in a run that notes no other moment as quiet.
 pub fn members_hold_what_is_firm()
     ensures each { EachHasMembers }
     ensures follow { StandbysFollow }

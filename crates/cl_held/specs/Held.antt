@@ -10,7 +10,7 @@ use Rattle.cl_serial.specs.Serial.{IsIn}
 use Rattle.cl_types.specs.declared.operations.TxnId.{TxnId}
 use Rattle.cl_held.specs.Work.{is_work}
 
--- a firm transaction is held by both members of each virtual node: its decision at its home, and its work wherever it has some
+-- both members of the home of a transaction have its decision, and of its work the standby's log of each virtual node has what the primary's has
 pub record IsHeld (shape : Shape) (pairs : PairWorld) (txn : TxnId) : Type 0 where
   pub at_primary : is_among txn (pairs.primaries (home_in shape.nodes txn)).decisions ≡ true
   pub at_standby : is_among txn (pairs.standbys (home_in shape.nodes txn)).decisions ≡ true

@@ -1,4 +1,4 @@
--- Which log records are the work of a transaction that every member holds.
+-- Which log records are the work of a transaction: of a firm one a standby's log has those that its primary's has.
 use Rattle.std.specs.Prelude.{Bool, true, false}
 use Rattle.cl_log.specs.declared.records.LogRec.{LogRec}
 use Rattle.cl_log.specs.declared.records.LogRec.TheVariants.{Touch, Set, Add, Prepared}

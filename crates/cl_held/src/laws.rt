@@ -1,8 +1,8 @@
 //! What holds of every run of pairs. The function does nothing: its contract is a law of the definitions.
 ghost use Rattle.cl_held.specs.Laws.{PairsHold};
 
-/// After every run of pairs, each transaction of the history is held by both members of each virtual node: its decision at
-/// its home, and its locks, writes and votes wherever it has some.
+/// After every run of pairs, both members of the home of each transaction of the history have its decision. Of its locks,
+/// writes and votes each standby's log has what the primary's has.
 pub fn pairs_hold()
     ensures { PairsHold }
 {}

@@ -8,8 +8,8 @@ use crate::count::one_more;
 use crate::{Failed, Sink};
 use std::io::{Stdout, Write};
 
-/// A writer of std as a sink: standard output unless another is named. It tells no bytes and holds
-/// none back: it hands on at once what it takes.
+/// A writer of std as a sink: standard output unless another is named. It tells no bytes. Where the
+/// writer tells its contents, each write appends to them what it takes.
 ///
 /// Contracts see its writer and its count of faults.
 #[derive(Debug, Drop)]

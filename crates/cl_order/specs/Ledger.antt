@@ -22,7 +22,7 @@ pub record Ledger : Type 0 where
   pub on : Place → ℕ
   -- the log of each virtual node
   pub logs : ℕ → List LogEntry
-  -- the transactions that are committed, in the order of their commits
+  -- the transactions that have joined it, in the order of their joining
   pub history : List TxnId
   -- the operations that each transaction has carried out, with their replies, in order
   pub done : TxnId → List Operation

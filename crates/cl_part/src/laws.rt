@@ -8,11 +8,13 @@ pub fn participants_have_states()
     ensures { EveryPartHasState }
 {}
 
-/// A participant is a replica of its full log: its store and its locks are those of that log, of
-/// which it keeps an end. It is sound where it keeps the whole. A new one is sound, and each call
-/// keeps it so, an operation where its transaction has not ended. So does a record that a standby
-/// takes, and so does a cut below the low number. A replica has no stored number above its last
-/// log number, as each call asks.
+/// A participant is a replica of a full log where its store and its locks are those of that log, of
+/// which it keeps an end (`IsReplicaOf`). It is sound where that is the log that it keeps. A new one
+/// whose log begins with 1 is sound. Each call keeps a replica, and keeps a sound one sound: an
+/// operation where its transaction has not ended. One more record keeps a replica, where it undoes
+/// no number that is still to come, and takes a lock for no transaction that has ended. So does a
+/// cut below the low number, where the full log undoes in order. A replica has no stored number
+/// above its last log number, as each call asks.
 pub fn calls_keep_sound()
     ensures new { NewIsSound }
     ensures below { ReplicaIsBelowNext }
@@ -22,17 +24,18 @@ pub fn calls_keep_sound()
     ensures cut { CutKeepsReplica }
 {}
 
-/// An undo step takes the first of what is left to undo. It leaves the settled map under each
-/// history without its transaction, so a rollback that was cut off continues to the same map.
+/// On a replica an undo step takes the first of what is left to undo. Where its transaction is open
+/// and no locks conflict, it leaves the settled map under each history without that transaction. So
+/// a rollback that was cut off continues to the same map.
 pub fn rollback_continues()
     ensures first { UndoTakesFirst }
     ensures map { UndoKeepsMap }
 {}
 
 /// On the participant of a virtual node, a call that may be made is one of the steps of a
-/// ledger, or none where an operation is refused or nothing is left to undo. An operation is
-/// answered with the reply that the ledger notes. So calls and commits from the start keep the
-/// ledger ordered.
+/// ledger, or none where an operation is refused or nothing is left to undo. An operation that is
+/// not refused is answered with the reply that the ledger notes. So calls that may be made, and
+/// transactions that may join the history between them, keep the ledger ordered from the start.
 pub fn calls_are_steps()
     ensures steps { CallsAreSteps }
     ensures answers { AnswersAreNoted }

@@ -16,5 +16,5 @@ pub enum Said {
 /// What was fed and what was written, in order.
 pub type Transcript = AppendOnlyList<Said>;
 
-/// The names of the transactions that are committed, in the order of their commits.
+/// The names of transactions in order. A run's history names those that are firm, in the order in which they became so.
 pub type History = AppendOnlyList<TxnId>;

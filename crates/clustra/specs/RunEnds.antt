@@ -25,7 +25,7 @@ use Rattle.clustra.specs.declared.ended.TheConstants.{DONE, READ_FAULT, WRITE_FA
 
 -- what a run that ended with this status did with its source, by what the source tells
 pub record EndsSource {S : Type 0} (left_of : S → Option (List ℕ)) (faults_of : S → ℕ) (before after : S) (status : ℕ) : Type 0 where
-  -- a run whose lines were answered has read the source to its end
+  -- at every status but these three the source is at its end
   pub end : (status ≡ READ_FAULT → ⊥) → (status ≡ TOO_MUCH_INPUT → ⊥) → (status ≡ NO_MEMORY → ⊥) → IsAtEnd (left_of after)
   -- a read that failed was counted once, and nothing else was
   pub read_fault : status ≡ READ_FAULT → faults_of after ≡ one_more (faults_of before)
@@ -40,7 +40,7 @@ pub record EndsSink {K : Type 0} (written_of flushed_of : K → Option (List ℕ
   pub all : (status ≡ DONE) ⊎ ((status ≡ READ_FAULT) ⊎ ((status ≡ TOO_MUCH_INPUT) ⊎ (status ≡ UNFINISHED))) → WritesAll (written_of before) (written_of after) text
   -- the sink is as it was at these
   pub unwritten : (status ≡ READ_FAULT) ⊎ ((status ≡ TOO_MUCH_INPUT) ⊎ ((status ≡ NO_MEMORY) ⊎ (status ≡ SPENT))) → after ≡ before
-  -- a run that ends as it should has flushed what it wrote
+  -- what was written is flushed at these
   pub flushed : (status ≡ DONE) ⊎ (status ≡ UNFINISHED) → flushed_of after ≡ written_of after
   -- a write or a flush that failed was counted once, and nothing else was
   pub write_fault : status ≡ WRITE_FAULT → faults_of after ≡ one_more (faults_of before)
@@ -110,8 +110,8 @@ pub record Ran {S K : Type 0} (left_of : S → Option (List ℕ)) (source_faults
   pub read : List ℕ
   pub unfinished : Bool
   pub reads : ReadsInput setting status (left_of source_before) (left_of source_after) read run (transcript_of kept.transcript) unfinished
-  -- at every status each actor is there but that of the event that was to happen next
+  -- at every status each actor is there but perhaps that of the event that was to happen next
   pub others : HasActorsBeside kept reads.made.rest
   pub source_ends : EndsSource left_of source_faults source_before source_after status
-  -- and its text is what was written
+  -- and a first part of its text was written
   pub sink_ends : EndsSink written_of flushed_of sink_faults sink_before sink_after status (full_text_with (texts_in read) (transcript_of kept.transcript) unfinished)

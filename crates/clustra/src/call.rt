@@ -62,16 +62,16 @@ pub fn clustra<R: Threads + Wait + Sync, S: Source, K: Sink, G: Gate + Sync>(
     ensures ran { (setting : Setting) → AreServe (map string_bytes words.now) setting → IfSome result.kept (λ kept.
         Ran S.left S.faults K.written K.flushed K.faults source.old source.new sink.old sink.new setting result.status kept) }
 
-    // The greatest numbers, past which an event is refused, are these.
+    // The greatest numbers of a transaction in its session, of a message of a link and of a log record have these values.
     ensures constants { HaveValues }
 {
     serve_words(alloc, serve_setting(words), source, sink)
 }
 
 /// Serves the lines of the source on a cluster within so many turns: `replay --turns K`, or these and `--step`, where K is
-/// from 1 to `TURNS_MAX`. It always returns.
+/// from 1 to `TURNS_MAX`. It has no bound `Wait`, so it returns.
 ///
-/// Where the turns run out, `* PENDING s` is written for each session that waits for an answer.
+/// At status `UNFINISHED`, `* PENDING s` is written for each session that waits for an answer.
 pub fn clustra_replay<S: Source, K: Sink>(
     alloc: Global,
     words: &[String],
@@ -89,7 +89,7 @@ pub fn clustra_replay<S: Source, K: Sink>(
     ensures ran { (setting : Setting) → AreReplay (map string_bytes words.now) setting → IfSome result.kept (λ kept.
         Ran S.left S.faults K.written K.flushed K.faults source.old source.new sink.old sink.new setting result.status kept) }
 
-    // The greatest numbers, past which an event is refused, are these.
+    // The greatest numbers of a transaction in its session, of a message of a link and of a log record have these values.
     ensures constants { HaveValues }
 {
     serve_words(alloc, replay_setting(words), source, sink)

@@ -1,8 +1,8 @@
 //! How a run ends.
 use cl_world::Kept;
 
-/// How a run ended. `kept` is `None` at status `USAGE`, at `NO_MEMORY` where there was no memory for the cluster, and at
-/// no other.
+/// How a run ended. `kept` is `None` at status `USAGE`, perhaps at `NO_MEMORY`, and at no other. Where it is, nothing was
+/// read or written.
 #[derive(Drop)]
 pub struct Ended {
     pub status: u8,
@@ -11,7 +11,7 @@ pub struct Ended {
 
 /// The source was read to its end, its lines were answered, and every answer written and flushed.
 pub const DONE: u8 = 0;
-/// The words are not those of the program. Nothing was read or written.
+/// The words are not those of the call. Nothing was read or written.
 pub const USAGE: u8 = 2;
 /// A read failed. Nothing was fed or written.
 pub const READ_FAULT: u8 = 3;
@@ -19,7 +19,7 @@ pub const READ_FAULT: u8 = 3;
 pub const WRITE_FAULT: u8 = 4;
 /// There is more input than a run takes. Nothing was fed or written.
 pub const TOO_MUCH_INPUT: u8 = 5;
-/// An allocation failed. Nothing was written.
+/// The run gave up for want of memory; no clause says when. Nothing was written.
 pub const NO_MEMORY: u8 = 6;
 /// All turns were made, and a line is not fed or the system is not quiet. What was answered is written, and then the
 /// sessions that wait for an answer.

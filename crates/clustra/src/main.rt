@@ -32,7 +32,7 @@ use std::process::ExitCode;
 use std::sync::Wait;
 use std::thread::Threads;
 
-// The words after the program's name. An error means that an allocation failed or that a word is not UTF-8.
+// The words after the program's name, unless one is not UTF-8 or it gives up for want of memory. It has no contract.
 fn words_of<R: Env + AllocGlobal>(rt: &R) -> Result<Vec<String>, io::Error> {
     let mut words = Vec::new(rt.alloc());
     for word in env::args(rt)?.skip(1) {
@@ -82,11 +82,11 @@ fn run_program<R: Threads + Wait + Sync + Env + AllocGlobal, S: Source, K: Sink>
 ) -> ExitCode
     ensures status { IsStatus (exit_status result) }
 
-    // Words that are no command are refused, and then nothing is read or written. So it is where there is no memory for
-    // the words or for the cluster.
+    // At this status nothing was read or written. No clause says which words end so.
     ensures usage { exit_status result ≡ USAGE → (source.new ≡ source.old) × (sink.new ≡ sink.old) }
 
-    // Else all that the top calls promise holds of the exit status, for a setting that some words ask for, and what was kept.
+    // At every other one, either it is `NO_MEMORY` and nothing was read or written, or `Ran` holds of the exit status and of
+    // what was kept, for a setting that some words ask for.
     ensures ran { (exit_status result ≡ USAGE → ⊥) → ((exit_status result ≡ NO_MEMORY) × (source.new ≡ source.old) × (sink.new ≡ sink.old))
         ⊎ ((words : List (List ℕ)) × (setting : Setting) × (kept : Kept) × AreAsked words setting × Ran S.left S.faults K.written K.flushed K.faults source.old source.new sink.old sink.new setting (exit_status result) kept) }
 {
