@@ -48,14 +48,14 @@ abbrev pub IsAskOf : TxnId → Content → Type 0
 IsAskOf name (Ask v txn number table key op) = txn ≡ name
 IsAskOf name content = ⊥
 
--- a cause is true of the exchange in which the transaction was aborted, answered at this position: CLIENT of ABORT, CONFLICT of a conflicting operation, MEMORY of an operation where memory was short; NODE comes never yet
+-- a cause is true of the exchange in which the transaction was aborted, answered at this position: CLIENT of ABORT, CONFLICT of a conflicting operation, MEMORY of an operation, where want of memory is said beside it; NODE comes never yet
 abbrev pub IsTrueCause : List TranscriptEntry → (TxnId → ℕ → Type 0) → (TxnId → TxnId → Place → Op → ℕ → ℕ → Type 0) → TxnId → Exchange → ℕ → AbortCause → Type 0
 IsTrueCause transcript Short Held name asked replied (Conflict holder) = IsConflict transcript Held name holder asked replied
 IsTrueCause transcript Short Held name asked replied (Node node) = ⊥
 IsTrueCause transcript Short Held name asked replied Client = asked.command ≡ Abort
 IsTrueCause transcript Short Held name asked replied Memory = IsOperation asked.command × Short name replied
 
--- each reply ABORTED of a transcript answers a command of a transaction, and its cause is true; for whom memory was short before a position is said beside it, and whose lock refused which operation
+-- each reply ABORTED of a transcript answers a command of a transaction, and its cause is true; who met want of memory before a position is said beside it, and whose lock refused which operation
 abbrev pub TrueCauses : List TranscriptEntry → (TxnId → ℕ → Type 0) → (TxnId → TxnId → Place → Op → ℕ → ℕ → Type 0) → Type 0
 TrueCauses transcript Short Held = (session position : ℕ) (cause : AbortCause) → StandsAt transcript position (written (Answer session (Aborted cause))) →
     (number : ℕ) × (asked : Exchange) × IsIn (commands_of transcript (record { session = session; number = number })) asked

@@ -1,4 +1,4 @@
--- When memory was short for a transaction in a firm run.
+-- Which events of a firm run stand for want of memory of a transaction: those with their mark. The mark is free.
 use Rattle.std.specs.Prelude.{◌≡◌, ℕ, ◌≤◌, true, List, [], ◌∷◌, ◌++◌, length}
 use Rattle.cl_runs.specs.Queues.{deliver}
 use Rattle.cl_runs.specs.World.{Shape}
@@ -8,7 +8,7 @@ use Rattle.cl_types.specs.declared.operations.TxnId.{TxnId}
 use Rattle.cl_wire.specs.Message.{Content}
 use Rattle.cl_causes.specs.Causes.{IsAskOf}
 
--- before this position of the transcript a participant that was asked for the transaction found no memory
+-- before this position of the transcript an event with its mark set brought a message that asks for the transaction; the mark is free
 pub record WasShort (shape : Shape) (events : List FirmEvent) (name : TxnId) (replied : ℕ) : Type 0 where
   pub front : List FirmEvent
   pub back : List FirmEvent

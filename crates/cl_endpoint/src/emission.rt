@@ -16,8 +16,8 @@ impl Endpoint {
     /// Emits packets: first, where an acknowledgement is owed, one to that actor, and then the other due messages, by
     /// receiver and then by number. What does not fit stays due.
     ///
-    /// It copies each message that it emits, since a link keeps it. Where an allocation fails, the actor may only be
-    /// dropped.
+    /// It copies each message that it emits, since a link keeps it. Where it gives up for want of memory, the actor may
+    /// only be dropped; no clause says when.
     pub fn emit(&mut self, alloc: Global, owed: Option<u32>) -> Result<Packets, NoMemory>
         requires { IfSome owed (λ peer. peer < ACTORS) }
         ensures packets { IfOk result (λ packets. map message_of packets.items ≡ emitted self.old owed) }

@@ -97,7 +97,7 @@ impl Endpoint {
     /// Gives a message for an actor: it is kept until it is acknowledged, and is due.
     ///
     /// A refusal leaves all as it was and drops the message. It is refused as `Spent` exactly where the numbers of the
-    /// link have reached their end, and else only where an allocation fails.
+    /// link have reached their end, and else for want of memory; no clause says when.
     #[tactic(auto, unfolding(crate::specs::Endpoint::after_give))]
     pub fn give(&mut self, to: u32, payload: Payload) -> Result<(), Refused>
         requires { to < ACTORS }
@@ -112,8 +112,8 @@ impl Endpoint {
 
     /// Gives messages, first to last.
     ///
-    /// It is refused as `Spent` only where a link would need a number above `NUMBER_MAX`, and else only where an
-    /// allocation fails. After a refusal some of the messages may have been given, so the actor may only be dropped.
+    /// It is refused as `Spent` only where a link would need a number above `NUMBER_MAX`, and else for want of memory; no
+    /// clause says when. After a refusal some of the messages may have been given, so the actor may only be dropped.
     pub fn give_all(&mut self, sends: SendList) -> Result<(), Refused>
         requires { All (λ send. send.to < ACTORS) (items sends) }
         ensures ok { OnOk result (self.new ≡ after_gives self.old (items sends)) }

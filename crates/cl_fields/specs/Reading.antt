@@ -325,7 +325,7 @@ read_list read_member = do
   count ← read_between 0 LIST_MAX
   read_members read_member count
 
--- a reader of the code answered what reading gives, seen by view, and left what reading leaves; or an allocation failed
+-- a reader of the code answered what reading gives, seen by view, and left what reading leaves; or it gave up for want of memory
 abbrev pub Gives : {X Y : Type 0} → (X → Y) → Result X Undecoded → List ℕ → Read Y → Type 0
 Gives view (Ok found) left read = read ≡ Ok (view found, left)
 Gives view (Err (undecoded.Fault fault)) left read = read ≡ Err fault

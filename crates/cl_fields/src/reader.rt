@@ -12,7 +12,7 @@ use std::marker::Model;
 ///
 /// - `Fault(Short)`: too few bytes are left.
 /// - `Fault(Field)`: the field is out of its range.
-/// - `NoMemory`: an allocation failed, which only calls that are given an allocator answer.
+/// - `NoMemory`: it gave up for want of memory; no clause says when. Only calls that are given an allocator answer so.
 ///
 /// No contract says what a reader has left after an error.
 #[derive(Drop)]

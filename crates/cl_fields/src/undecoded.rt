@@ -22,7 +22,7 @@ pub enum WireFault {
 pub enum Undecoded {
     /// The bytes are the spelling of no packet.
     Fault(WireFault),
-    /// An allocation failed.
+    /// The call gave up for want of memory; no clause says when.
     NoMemory,
 }
 

@@ -11,7 +11,7 @@ use std::marker::Model;
 
 /// The bytes that are written so far. Contracts see the list of them.
 ///
-/// Each call appends one field. Its only error is that an allocation failed, and no contract says what a writer has after
+/// Each call appends one field. Its only error is want of memory; no clause says when it comes, nor what a writer has after
 /// it.
 #[derive(Drop)]
 pub struct Writer {

@@ -51,7 +51,7 @@ impl Sink for MemSink {
 
     ghost faults = { λ s. s.calls.faults };
 
-    /// Takes the whole piece. It fails where the number of the call is listed or an allocation fails.
+    /// Takes the whole piece. It fails where the number of the call is listed, and may give up for want of memory.
     ///
     /// A flush is a call too, with a number of its own.
     fn write(&mut self, piece: &[u8]) -> Result<usize, Failed>

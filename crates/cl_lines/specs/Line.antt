@@ -131,7 +131,7 @@ fault_part (Err fault) = Some fault
 abbrev pub fault_of : List ℕ → Option LineFault
 fault_of bytes = fault_part (line_of bytes)
 
--- a reader answered what this reading is, or that an allocation failed
+-- a reader answered what this reading is, or gave up for want of memory
 abbrev pub ReadsLine : {A : Type 0} → Result A Unread → Result A LineFault → Type 0
 ReadsLine (Ok value) reading = reading ≡ Ok value
 ReadsLine (Err (Fault fault)) reading = reading ≡ Err fault

@@ -48,7 +48,7 @@ pub enum LineFault {
 pub enum Unread {
     /// The line is not well formed.
     Fault(LineFault),
-    /// An allocation failed.
+    /// The call gave up for want of memory; no clause says when.
     NoMemory,
 }
 

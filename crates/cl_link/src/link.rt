@@ -64,7 +64,7 @@ impl<B> Link<B> {
     /// Gives a message to the link, and returns its number. The message is kept, and is due.
     ///
     /// A refusal leaves the link unchanged and drops the message. It is refused as `Spent` exactly where the numbers have
-    /// reached `NUMBER_MAX`, and else only where an allocation fails.
+    /// reached `NUMBER_MAX`, and else for want of memory; no clause says when.
     #[tactic(auto, unfolding(crate::specs::LinkState::after_send))]
     pub fn send(&mut self, body: B) -> Result<u64, Refused>
     where

@@ -17,7 +17,7 @@ pub enum Granted {
 pub enum LockRefused {
     /// The transaction is the first holder, in order of grant, of a conflicting lock.
     Held(TxnId),
-    /// An allocation failed.
+    /// The call gave up for want of memory; no clause says when.
     NoMemory,
 }
 

@@ -21,11 +21,12 @@ pub data Input : Type 0 where
   -- a quiet moment
   quiet : Input
 
--- what a step gives: packets in the order of their emission, the transactions that became firm, the entry that is offered, and whether memory was short
+-- what a step gives: packets in the order of their emission, the transactions that became firm, the entry that is offered, and the mark
 pub record OutsData : Type 0 where
   pub packets : List Message
   pub firm : List TxnId
   pub entry : Option RosterEntry
+  -- whether an operation was given up for want of memory; no clause says when
   pub short : Bool
 
 -- what a step gives, without the room of its lists

@@ -19,6 +19,6 @@ pub enum Event {
     Quiet,
 }
 
-/// The events of a run, each with its mark: whether a participant found no memory for an operation,
-/// and answered so.
+/// The events of a run, each with its mark: whether a participant gave up an operation for want of
+/// memory, and answered so; no clause says when.
 pub type Trace = AppendOnlyList<(Event, bool)>;

@@ -17,8 +17,8 @@ use cl_wire::Packet;
 /// `State` is what the actor has, as plain data, and `is_state` ties the actor to it. A call asks that
 /// its input fits, and gives the step with the mark that its `Outs` have: that step needs no number
 /// above its limit. It is refused as `Spent` only where the step with no mark would need one, and else
-/// only where an allocation fails. After a refusal the actor may only be dropped, but a front's
-/// transcript is as before.
+/// for want of memory; no clause says when. After a refusal the actor may only be dropped, but a
+/// front's transcript is as before.
 pub trait Machine {
     // What the actor has, as plain data.
     ghost State: { Type 0 };

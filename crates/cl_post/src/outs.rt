@@ -13,7 +13,7 @@ pub struct Outs {
     pub firm: TxnList,
     /// The entry that is offered to the roster.
     pub entry: Option<RosterEntry>,
-    /// Whether a participant found no memory for an operation, and answered so. It is the mark of
-    /// the event.
+    /// Whether a participant gave up an operation for want of memory, and answered so; no clause
+    /// says when. It is the mark of the event.
     pub short: bool,
 }

@@ -56,7 +56,7 @@ fn lock(
     }
 }
 
-// Does what a record does to the store and to the locks. Where an allocation fails it does nothing.
+// Does what a record does to the store and to the locks. Where it gives up for want of memory it does nothing.
 fn redo(
     alloc: Global,
     store: &mut Store,

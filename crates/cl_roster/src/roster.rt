@@ -49,7 +49,7 @@ impl Roster {
         }
     }
 
-    /// Makes room for `count` more entries. An `Err` means that an allocation failed. The entries stay in either case.
+    /// Makes room for `count` more entries, or gives up for want of memory. The entries stay in either case.
     pub fn reserve(&mut self, count: usize) -> Result<(), NoMemory>
         ensures same { self.new ≡ record self.old { room = self.new.room } }
         ensures ok { OnOk result (count ≤ self.new.room) }
@@ -59,7 +59,7 @@ impl Roster {
         self.entries.reserve(count)
     }
 
-    /// Appends an entry. With room it cannot fail; an `Err` means that an allocation failed, and the entries stay.
+    /// Appends an entry. With room it cannot fail; else it may give up for want of memory, and the entries stay.
     pub fn push(&mut self, entry: RosterEntry) -> Result<(), NoMemory>
         requires { IsLawfulEntry self.old.nodes self.old.spares self.old.entries entry }
         ensures ok { OnOk result

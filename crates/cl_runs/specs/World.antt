@@ -59,7 +59,7 @@ pub data Happening : Type 0 where
   -- a quiet moment is noted
   quiet : Happening
 
--- what happened, first to last, each with its mark: whether memory was short
+-- what happened, first to last, each with its mark: whether an operation that is asked in it is given up for want of memory; no clause says when
 abbrev pub Run : Type 0
 Run = List (Happening × Bool)
 

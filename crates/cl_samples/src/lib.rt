@@ -9,7 +9,7 @@ use std::alloc::Global;
 pub enum NoSample {
     /// The bytes are no such name or value.
     Unlawful,
-    /// An allocation failed.
+    /// The call gave up for want of memory; no clause says when.
     NoMemory,
 }
 

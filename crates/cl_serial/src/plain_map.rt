@@ -87,7 +87,7 @@ impl PlainMap {
 
     /// Does an operation on the value at its place, if there is one, and returns its reply.
     ///
-    /// An `Err` means that an allocation failed, and leaves the map unchanged.
+    /// It may give up for want of memory, and leaves the map unchanged then.
     pub fn apply(&mut self, table: &TableName, key: &Key, op: &Op) -> Result<Reply, NoMemory>
         ensures reply { let place = place_of table.now key.now in
             IfOk result (λ reply. reply ≡ plain_reply op.now (value_at self.old place)) }

@@ -10,11 +10,12 @@ use Rattle.cl_steps.specs.declared.steps.Outgoing.{Outgoing}
 use Rattle.cl_steps.specs.declared.steps.Steps.{Steps}
 use Rattle.cl_wire.specs.Message.{Content}
 
--- the messages with their receivers, the transactions that became firm, the entry that is offered, and whether memory was short
+-- the messages with their receivers, the transactions that became firm, the entry that is offered, and the mark
 pub record Step : Type 0 where
   pub sends : List Outgoing
   pub firm : List TxnId
   pub entry : Option RosterEntry
+  -- whether an operation was given up for want of memory; no clause says when
   pub short : Bool
 
 -- a message with this content for this actor

@@ -31,7 +31,7 @@ pub struct Steps {
     pub firm: TxnList,
     /// The entry that is offered to the roster.
     pub entry: Option<RosterEntry>,
-    /// Whether a participant found no memory for an operation, and answered so.
+    /// Whether a participant gave up an operation for want of memory, and answered so; no clause says when.
     pub short: bool,
 }
 

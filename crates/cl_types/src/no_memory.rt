@@ -5,7 +5,7 @@ use std::alloc::{AllocError, AllocFailed};
 use std::error::Error;
 use std::fmt;
 
-/// An allocation failed. A value that was to change is as it was before the call.
+/// A call gave up for want of memory; no clause says when. What it leaves, its contract says.
 #[derive(Clone, Copy, Debug, PartialEq, Eq)]
 pub struct NoMemory;
 

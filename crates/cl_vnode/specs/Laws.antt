@@ -31,7 +31,7 @@ StepsKeepReplica = (primary : ℕ → ℕ) (state : ReplicaState) (from : ℕ) (
 abbrev pub StandbyStepsKeepReplica : Type 0
 StandbyStepsKeepReplica = (state : ReplicaState) (from : ℕ) (content : Content) → IsSameReplica state (standby_stepped state from content).state
 
--- where memory was short, a step of a replica sends to the same actors, or to fewer: then nothing is shipped
+-- with the mark, which stands for want of memory, a step of a replica sends to the same actors as without it, or to fewer
 abbrev pub MarksAreAlike : Type 0
 MarksAreAlike = (vnode : Vnode) (state : ReplicaState) → IsReplicaStateOf vnode state → (primary : ℕ → ℕ) (from : ℕ) (content : Content) (short : Bool) →
     AreFewer (receivers (stepped primary state from content short).step) (receivers (stepped primary state from content false).step)

@@ -49,7 +49,7 @@ message_of_act primary (Finish v txn commit) = sent (primary v) (message.Finish 
 message_of_act primary (Decide txn) = sent FRONT message.Bare
 message_of_act primary (Say txn number outcome) = sent FRONT (message.Outcome txn number outcome)
 
--- whether an answer is that memory was short
+-- whether an answer is want of memory
 abbrev pub is_no_memory : Answer → Bool
 is_no_memory NoMemory = true
 is_no_memory answer = false

@@ -104,7 +104,7 @@ unfoldable pub voted : (ℕ → ℕ) → Stepped → ℕ → TxnId → Stepped
 voted primary done v txn =
     all_performed primary (with_control done (after_vote done.state.control v txn)) (vote_acts done.state.control v txn)
 
--- an operation, which is carried out and answered; where memory was short (the last argument), the answer says so and nothing has changed
+-- an operation, which is carried out and answered; with the mark (the last argument) the answer is want of memory, and nothing has changed
 unfoldable pub asked : Stepped → ℕ → ℕ → TxnId → ℕ → Place → Op → Bool → Stepped
 asked done from v txn number place op true = record done {
   step = record done.step { sends = done.step.sends ++ sent from (Answer v txn number NoMemory) ∷ []; short = true };

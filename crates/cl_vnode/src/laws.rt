@@ -14,7 +14,8 @@ pub fn steps_keep_replica()
 {}
 
 /// A step of a primary sends to the sender of its input, to the front, to the primaries of virtual
-/// nodes, or to its standby, and where memory was short to the same actors or to fewer.
+/// nodes, or to its standby. Where it gives up for want of memory, it sends to the same actors or to
+/// fewer; no clause says when.
 pub fn steps_send_to_receivers()
     ensures receivers { StepsSendToReceivers }
     ensures marks { MarksAreAlike }

@@ -147,7 +147,7 @@ alone (Err fault) = Err fault
 unfoldable pub read_packet : List ℕ → Result Message WireFault
 read_packet bytes = alone (read_message bytes)
 
--- a packet of the code is this reading, or an allocation failed
+-- a packet of the code is this reading, or the call gave up for want of memory; no clause says when
 abbrev pub Decodes : Result Packet Undecoded → Result Message WireFault → Type 0
 Decodes (Ok packet) read = read ≡ Ok (message_of packet)
 Decodes (Err (undecoded.Fault fault)) read = read ≡ Err fault

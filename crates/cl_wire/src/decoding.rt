@@ -109,7 +109,7 @@ fn read_whole(alloc: Global, bytes: &[u8]) -> Result<Packet, Undecoded>
 pub fn decode(alloc: Global, bytes: &[u8]) -> Result<Packet, Undecoded>
     // What is read is spelled so.
     ensures found { IfOk result (λ packet. Spells bytes.now (message_of packet)) }
-    // What is spelled so is read, unless an allocation fails.
+    // What is spelled so is read, or the call gives up for want of memory; no clause says when.
     ensures only { (m : Message) → Spells bytes.now m → Decodes result (Ok m) }
     // Which fault it is.
     ensures exact { Decodes result (read_packet bytes.now) }

@@ -17,7 +17,7 @@ pub record ReadsToEnd {V : Type 0} (view : V → List ℕ) (before after : Optio
   pub bytes : ReadsBytes before after read
   pub ends : EndsReading view result read
 
--- the piece was added, or there is too much with it, or an allocation failed
+-- the piece was added, or there is too much with it, or the call gave up for want of memory
 abbrev pub AddsPiece : List ℕ → List ℕ → List ℕ → Result (Unit {0}) InputFault → Type 0
 AddsPiece old piece new (Ok done) = (new ≡ old ++ piece) × (IsTooMuch (old ++ piece) → ⊥)
 AddsPiece old piece new (Err Read) = ⊥

@@ -27,7 +27,7 @@ always packet times = Deliver
 abbrev pub texts_in : List ℕ → List (List ℕ)
 texts_in bytes = map kept_line (whole_lines bytes)
 
--- the input was not read to its end, or memory was wanting
+-- a read failed, there was too much input, or the run gave up for want of memory; no clause says when
 abbrev pub IsCutShort : ℕ → Type 0
 IsCutShort status = (status ≡ READ_FAULT) ⊎ ((status ≡ TOO_MUCH_INPUT) ⊎ (status ≡ NO_MEMORY))
 
@@ -78,7 +78,7 @@ pub record WritesText (before after : Option (List ℕ)) (text : List ℕ) : Typ
 abbrev pub WritesAll : Option (List ℕ) → Option (List ℕ) → List ℕ → Type 0
 WritesAll before after text = after ≡ append_known before text
 
--- the status of a run that began: done, a read that failed, a write that failed, too much input, a failed allocation, turns that ran out, a number above its limit
+-- the status of a run that began: done, a read that failed, a write that failed, too much input, want of memory, turns that ran out, a number above its limit
 abbrev pub IsEndStatus : ℕ → Type 0
 IsEndStatus status =
     (status ≡ DONE) ⊎ ((status ≡ READ_FAULT) ⊎ ((status ≡ WRITE_FAULT) ⊎ ((status ≡ TOO_MUCH_INPUT) ⊎ ((status ≡ NO_MEMORY) ⊎ ((status ≡ UNFINISHED) ⊎ (status ≡ SPENT))))))

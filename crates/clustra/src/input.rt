@@ -15,7 +15,7 @@ pub(crate) enum InputFault {
     Read,
     /// There is a line or a byte too many.
     TooMuch,
-    /// An allocation failed.
+    /// The call gave up for want of memory; no clause says when.
     NoMemory,
 }
 
