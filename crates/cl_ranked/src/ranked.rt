@@ -85,7 +85,7 @@ impl<T> Ranked<T> {
     {
         let taken = self.tree.take(index.checked_sub(self.base)?);
         self.base += self.tree.trim();
-        taken
+        taken.map(Box::into_inner)
     }
 
     /// The number of items that are there.

@@ -163,12 +163,12 @@ impl<T> Tree<T> {
         }
     }
 
-    // Takes the item out of the slot of an index.
-    pub(crate) fn take(&mut self, index: u64) -> Option<T>
+    // Takes the item out of the slot of an index, in its box: so the way back from a deep slot moves no item.
+    pub(crate) fn take(&mut self, index: u64) -> Option<Box<T>>
     where
         T: Drop,
         requires { IsCounted self.old }
-        ensures result { result ≡ slot_at (slots_in self.old) index }
+        ensures result { option_map (λ taken. taken.value) result ≡ slot_at (slots_in self.old) index }
         ensures slots { slots_in self.new ≡ slice_set (slots_in self.old) index None }
         ensures counted { IsCounted self.new }
     {
@@ -190,11 +190,11 @@ impl<T> Tree<T> {
     }
 
     // Takes the item out of the slot of an index, where the tree is one slot with an item.
-    fn take_leaf(&mut self, index: u64) -> Option<T>
+    fn take_leaf(&mut self, index: u64) -> Option<Box<T>>
     where
         T: Drop,
         requires { IsLeaf self.old }
-        ensures result { result ≡ slot_at (slots_in self.old) index }
+        ensures result { option_map (λ taken. taken.value) result ≡ slot_at (slots_in self.old) index }
         ensures slots { slots_in self.new ≡ slice_set (slots_in self.old) index None }
         ensures counted { IsCounted self.new }
     {
@@ -204,7 +204,7 @@ impl<T> Tree<T> {
         let Tree::Leaf(item) = mem::replace(self, Tree::Empty(1)) else {
             unreachable!()
         };
-        Some(Box::into_inner(item))
+        Some(item)
     }
 
     // Lets go of the memory of a tree with no items.
