@@ -37,6 +37,9 @@ impl Firm {
         ensures ok { OnOk result (count ≤ firm_room self.new) }
         ensures roomy { count ≤ firm_room self.old → IsOk result }
     {
+        if count == 0 {
+            return Ok(());
+        }
         self.history.reserve(count)?;
         self.names.reserve(count)?;
         Ok(())
