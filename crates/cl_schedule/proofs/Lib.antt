@@ -1,3 +1,4 @@
+mod Unasked
 mod Notes
 mod Happens
 mod Resting

@@ -24,9 +24,13 @@ impl Asked {
     }
 
     /// How often the fate of a packet was asked.
+    #[tactic(auto, using(crate::proofs::Unasked::none_asked))]
     pub(crate) fn times(&self, id: u64) -> u32
         ensures { result ≡ times_in self.now id }
     {
+        if self.times.is_empty() {
+            return 0;
+        }
         self.times.get(&id).copied().unwrap_or(0)
     }
 
@@ -40,10 +44,13 @@ impl Asked {
     }
 
     // The packet is no longer on its way.
+    #[tactic(auto, using(crate::proofs::Unasked::none_forgotten))]
     fn forget(&mut self, id: u64)
         ensures { (other : ℕ) → times_in self.new other ≡ with_at (times_in self.old) id 0 other }
     {
-        self.times.remove(&id);
+        if !self.times.is_empty() {
+            self.times.remove(&id);
+        }
     }
 
     /// The fate of a packet was asked, after which it is gone or not.
