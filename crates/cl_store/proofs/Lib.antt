@@ -2,6 +2,7 @@ pub mod Counted
 pub mod Determined
 pub mod Found
 pub mod InOrder
+mod Indexed
 mod Live
 mod Parts
 pub mod Places

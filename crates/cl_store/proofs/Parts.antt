@@ -1,8 +1,9 @@
 -- What holds of the parts of a list, of its image and of what a filter keeps.
-use Rattle.std.proofs.Common.{◌≡◌, ℕ, zero, suc, ◌+◌, ◌<◌, ◌≤◌, Bool, true, false, List, [], ◌∷◌, ◌++◌, map, length, take, drop, get_or, refl, sym, ap, ◌∙◌, subst, arith}
+use Rattle.std.proofs.Common.{◌≡◌, ℕ, zero, suc, ◌+◌, ◌<◌, ◌≤◌, Bool, true, false, List, [], ◌∷◌, ◌++◌, map, length, take, drop, get_or, set}
+use Rattle.std.proofs.Common.{refl, sym, ap, ◌∙◌, subst, arith}
 use Rattle.std.specs.List.{All, AllWithin, HoldsAt, filter}
 use Rattle.std.proofs.lemmas.Bool.{cond-true, cond-false}
-use Rattle.std.proofs.lemmas.List.{take-append-drop, drop_more, get_or-take, get_or-drop, length-take-le, length-drop, length-map, get_or-map}
+use Rattle.std.proofs.lemmas.List.{take-append-drop, set_split, drop_more, get_or-take, get_or-drop, length-take-le, length-drop, length-map, get_or-map}
 use Rattle.std.proofs.lemmas.List.Elements.{All-head, All-tail}
 
 -- a list is what stands before an element, the element, and what stands behind it
@@ -11,6 +12,17 @@ split_at xs at x inside read =
     sym (take-append-drop at xs)
     ∙ ap (λ rest. take at xs ++ rest) (drop_more xs at x inside)
     ∙ ap (λ y. take at xs ++ y ∷ drop (at + 1) xs) (sym read)
+
+-- a list with another element at an index
+pub set_at : {X : Type 0} (xs : List X) (at : ℕ) (x : X) → at < length xs → set xs at x ≡ take at xs ++ x ∷ drop (at + 1) xs
+set_at xs at x inside = set_split xs at x inside ∙ ap (λ n. take at xs ++ x ∷ drop n xs) (let same : suc at ≡ at + 1 = omega arith in same)
+
+-- functions that agree on a list have the same image of it
+pub map-same : {X Y : Type 0} (f g : X → Y) (xs : List X) → All (λ x. f x ≡ g x) xs → map f xs ≡ map g xs
+map-same f g [] same = refl
+map-same f g (x ∷ xs) same =
+    ap (λ y. y ∷ map f xs) (All-head (λ y. f y ≡ g y) x xs same)
+    ∙ ap (λ ys. g x ∷ ys) (map-same f g xs (All-tail (λ y. f y ≡ g y) x xs same))
 
 pub HoldsAt-map : {X Y : Type 0} (P : Y → Type 0) (f : X → Y) (xs : List X) (at : ℕ) → at < length xs → HoldsAt (λ x. P (f x)) xs at → HoldsAt P (map f xs) at
 HoldsAt-map P f [] at inside holds = absurd (omega arith)

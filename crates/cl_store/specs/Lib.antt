@@ -1,4 +1,5 @@
-pub mod Entries
+pub mod Index
+pub mod IndexedItems
 pub mod Items
 pub mod Laws
 pub mod Live

@@ -1,8 +1,8 @@
-//! Records with their state numbers: a map from places, kept in scan order.
+//! Records with their state numbers: a map from places, with an index in scan order.
 #![tactic(auto)]
 
-mod entries;
-mod hashed_item;
+mod index_entry;
+mod indexed_items;
 mod item;
 mod laws;
 mod store;

@@ -1,11 +1,10 @@
 //! The store of a replica.
-ghost use Rattle.cl_store.specs.Entries.{items_of};
-ghost use Rattle.cl_store.specs.Items.{IsInScanOrder, live};
-ghost use Rattle.std.specs.Prelude.{◌≡◌};
-ghost use Rattle.std.proofs.Props.{props};
+ghost use Rattle.std.specs.Prelude.{◌≡◌, is_some, if◌then◌else◌};
+ghost use Rattle.cl_store.specs.IndexedItems.{in_scan_order};
+ghost use Rattle.cl_store.specs.Items.{live};
 
-use crate::hashed_item::HashedItem;
-use crate::{Item, ItemList, entries};
+use crate::indexed_items::IndexedItems;
+use crate::{Item, ItemList};
 use cl_types::{Key, NoMemory, TableName, Value};
 use std::alloc::Global;
 
@@ -15,11 +14,17 @@ use std::alloc::Global;
 /// (`records`), what stands at each place (`stored`), and for how many more records there is room (`room`).
 #[derive(Debug, Drop)]
 pub struct Store {
-    entries: Vec<HashedItem>,
+    items: IndexedItems,
     live_count: u64,
     alloc: Global,
-    ghost in_order: { IsInScanOrder (items_of entries.items) } by { Prim.hlevel props },
-    ghost counted: { live_count ≡ live (items_of entries.items) },
+    ghost counted: { live_count ≡ live (in_scan_order items) },
+}
+
+// How many live records a value makes: one, or none where it is absent.
+fn one_if_live(value: &Option<Value>) -> u64
+    ensures { result ≡ (if is_some value.now then 1 else 0) }
+{
+    u64::from(value.is_some())
 }
 
 #[tactic(auto, unfolding(crate::specs::Store::records, crate::specs::Store::room))]
@@ -37,7 +42,7 @@ impl Store {
         ensures room { room result ≡ 0 }
     {
         Store {
-            entries: Vec::new(alloc),
+            items: IndexedItems::new(alloc),
             live_count: 0,
             alloc,
         }
@@ -51,9 +56,9 @@ impl Store {
         ensures number { result.0 ≡ (stored self.now (table.now, key.now)).0 }
         ensures value { option_copied result.1 ≡ (stored self.now (table.now, key.now)).1 }
     {
-        match entries::find(&self.entries, table, key) {
-            Ok(index) => {
-                let item = &self.entries[index].item;
+        match self.items.find(table, key) {
+            Ok(at) => {
+                let item = self.items.at(at);
                 (item.number, item.value.as_ref())
             }
             Err(_) => (0, None),
@@ -67,14 +72,13 @@ impl Store {
         ensures roomy { count ≤ room self.old → IsOk result }
         ensures keeps_room { room self.old ≤ room self.new }
     {
-        self.entries.reserve(count)?;
-        Ok(())
+        self.items.reserve(count)
     }
 
     /// Writes a value, or none where the record dies, with a state number above the one that stands there.
     ///
-    /// It takes no memory, and finds the place as `get` does. A place that is new moves the records after it.
-    /// The value that stood there is dropped.
+    /// It takes no memory, and finds the place as `get` does. A place that is new moves, of each record after
+    /// it in scan order, an entry of the index of 16 bytes, and no record. The value that stood there is dropped.
     pub fn write(&mut self, table: &TableName, key: &Key, value: Option<Value>, number: u64)
         requires above { (stored self.old (table.now, key.now)).0 < number }
         requires room { (0 < (stored self.old (table.now, key.now)).0) ⊎ (1 ≤ room self.old) }
@@ -83,25 +87,22 @@ impl Store {
         ensures room { room self.old ≤ room self.new + 1 }
         ensures keeps_room { 0 < (stored self.old (table.now, key.now)).0 → room self.old ≤ room self.new }
     {
-        let added = entries::one_if_live(&value);
-        match entries::find(&self.entries, table, key) {
-            Ok(index) => {
-                let entry = &mut self.entries[index];
-                let removed = entries::one_if_live(&entry.item.value);
-                entry.overwrite(number, value);
+        let added = one_if_live(&value);
+        match self.items.find(table, key) {
+            Ok(at) => {
+                let removed = one_if_live(&self.items.at(at).value);
+                self.items.overwrite(at, number, value);
                 self.live_count = self.live_count - removed + added;
             }
-            Err(index) => {
+            Err(at) => {
                 let item = Item {
                     table: table.copy(),
                     key: key.copy(),
                     number,
                     value,
                 };
-                match self.entries.insert(index, HashedItem::new(item)) {
-                    Ok(()) => self.live_count += added,
-                    Err(_) => unreachable!(),
-                }
+                self.items.insert(at, item);
+                self.live_count += added;
             }
         }
     }
@@ -111,7 +112,7 @@ impl Store {
         ensures count { result ≡ live (records self.now) }
         ensures few { result < 2 ^ 60 }
     {
-        let _entries = self.entries.as_slice();
+        let _few = self.items.len();
         self.live_count
     }
 
@@ -123,7 +124,7 @@ impl Store {
         ensures ok { IfOk result (λ list. items list ≡ scanned (records self.now) (place_read after.entry) max) }
         ensures none { scanned (records self.now) (place_read after.entry) max ≡ [] → IsOk result }
     {
-        let rest = &self.entries[entries::index_after(&self.entries, after)..];
-        entries::copied_items(self.alloc, &rest[..max.min(rest.len())])
+        let from = self.items.find_after(after);
+        self.items.copied(from, max, self.alloc)
     }
 }
