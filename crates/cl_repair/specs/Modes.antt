@@ -38,6 +38,10 @@ mode_noted mode entry = mode
 abbrev pub after_noted : ModesState → RosterEntry → ModesState
 after_noted modes entry = record modes { mode = mode_noted modes.mode entry }
 
+-- the replica makes its log safe by itself from now on
+abbrev pub after_alone : ModesState → ModesState
+after_alone modes = record modes { mode = Lone }
+
 -- up to which number a log is safe that ends with the last one: without a standby all of it is, and with one as far as it was acknowledged
 abbrev pub safe_in : Mode → ℕ → ℕ → ℕ
 safe_in Lone acked last = last

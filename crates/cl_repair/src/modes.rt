@@ -1,6 +1,6 @@
 //! The mode of a replica, and what its standby has acknowledged.
 ghost use Rattle.std.specs.Prelude.{◌≡◌, None};
-ghost use Rattle.cl_repair.specs.Modes.{after_acked, after_noted, is_safe, new_modes, safe_in};
+ghost use Rattle.cl_repair.specs.Modes.{after_acked, after_alone, after_noted, is_safe, new_modes, safe_in};
 
 use crate::Mode;
 use cl_roster::{Roles, RosterEntry};
@@ -54,6 +54,14 @@ impl Modes {
         ensures { self.new ≡ after_noted self.old entry }
     {
         self.mode = self.mode.noted(entry);
+    }
+
+    /// The replica makes its log safe by itself from now on: a primary whose standby has stopped, or
+    /// a standby that takes over.
+    pub fn go_on_alone(&mut self)
+        ensures { self.new ≡ after_alone self.old }
+    {
+        self.mode = Mode::Lone;
     }
 
     /// Whether the record of this number is safe.

@@ -1,6 +1,6 @@
 //! The roles of one virtual node.
 ghost use Rattle.std.specs.Prelude.{◌≡◌, ◌+◌, ◌%◌, ◌<◌};
-ghost use Rattle.cl_roster.specs.Roles.{first_roles, after_stop, after_entry, is_only_member};
+ghost use Rattle.cl_roster.specs.Roles.{first_roles, after_stop, after_entry, is_only_member, is_standby};
 
 use crate::{RosterEntry, VIRTUAL_NODES_MAX};
 
@@ -60,5 +60,12 @@ impl Roles {
         ensures { result ≡ is_only_member self node }
     {
         self.primary == node && self.standby.is_none()
+    }
+
+    /// Returns whether there is a standby, and it is the node.
+    pub fn is_standby(self, node: u32) -> bool
+        ensures { result ≡ is_standby self.standby node }
+    {
+        self.standby == Some(node)
     }
 }

@@ -129,6 +129,14 @@ impl Roster {
         roles_after(self.nodes, &entries[..k as usize], virtual_node)
     }
 
+    /// Returns the roles of the virtual node once one more entry is noted. It walks no entries; no contract says so.
+    pub fn roles_with(&self, entry: RosterEntry, virtual_node: u32) -> Roles
+        requires { virtual_node < self.now.nodes }
+        ensures { result ≡ roles_after self.now.nodes (self.now.entries ++ entry ∷ []) virtual_node }
+    {
+        self.standing.roles(virtual_node).after(virtual_node, entry)
+    }
+
     /// Returns whether the node has not stopped in the first `k` entries. The front, which never stops, lives. After all
     /// entries it walks none; no contract says so.
     pub fn living(&self, k: u32, node: u32) -> bool
