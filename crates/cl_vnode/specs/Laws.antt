@@ -4,7 +4,7 @@ use Rattle.cl_types.specs.Placement.{IsNodeCount}
 use Rattle.cl_repair.specs.declared.mode.Mode.{Mode}
 use Rattle.cl_repair.specs.declared.mode.Mode.TheVariants.{Lone, Pair}
 use Rattle.cl_steps.specs.declared.actors.TheConstants.{FRONT}
-use Rattle.cl_steps.specs.Steps.{Step, AreFewer, receivers}
+use Rattle.cl_steps.specs.Steps.{AreFewer, receivers}
 use Rattle.cl_wire.specs.Message.{Content}
 use Rattle.cl_vnode.specs.declared.vnode.Vnode.{Vnode}
 use Rattle.cl_vnode.specs.Inputs.{Fits}

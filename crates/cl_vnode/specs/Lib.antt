@@ -1,6 +1,8 @@
 pub mod Inputs
 pub mod Laws
 pub mod News
+pub mod Noted
+pub mod Noting
 pub mod Replica
 pub mod Sending
 pub mod Standby

@@ -4,6 +4,8 @@
 mod admitting;
 mod laws;
 mod news;
+mod noted;
+mod noting;
 mod participant;
 mod sending;
 mod shipping;

@@ -7,15 +7,15 @@ ghost use Rattle.cl_wire.specs.Message.{content_of};
 ghost use Rattle.cl_vnode.specs.Sending.{AreSends, IsSend, is_no_memory, message_of_act, primary_of};
 ghost use Rattle.cl_vnode.specs.Sending as sending;
 
+use crate::noted::Noted;
 use cl_control::{Act, ActList};
-use cl_roster::Roster;
 use cl_steps::{FRONT, Steps};
 use cl_types::{Answer, NoMemory, TxnId};
 use cl_wire::Body;
 
 /// Sends a message to the primary of a virtual node.
 pub(crate) fn send_to_primary(
-    roster: &Roster,
+    roster: &Noted<'_>,
     steps: &mut Steps,
     v: u32,
     body: Body,
@@ -25,12 +25,11 @@ pub(crate) fn send_to_primary(
       sends = (step_of steps.old).sends ++ sent (primary_of roster.now v) (content_of body) ∷ [];
     }) }
 {
-    let roles = roster.roles(roster.len(), v);
-    steps.send(roles.primary, body)
+    steps.send(roster.primary(v), body)
 }
 
 // Sends an act that is a message.
-fn send_act(roster: &Roster, steps: &mut Steps, act: Act) -> Result<(), NoMemory>
+fn send_act(roster: &Noted<'_>, steps: &mut Steps, act: Act) -> Result<(), NoMemory>
     requires { IsSend roster.now.nodes act }
     ensures { OnOk result (step_of steps.new ≡ record (step_of steps.old) {
       sends = (step_of steps.old).sends ++ message_of_act (primary_of roster.now) act ∷ [];
@@ -53,7 +52,7 @@ fn send_act(roster: &Roster, steps: &mut Steps, act: Act) -> Result<(), NoMemory
 }
 
 /// Sends acts that are messages, in order.
-pub(crate) fn send_all(roster: &Roster, steps: &mut Steps, acts: ActList) -> Result<(), NoMemory>
+pub(crate) fn send_all(roster: &Noted<'_>, steps: &mut Steps, acts: ActList) -> Result<(), NoMemory>
     requires { AreSends roster.now.nodes (items acts) }
     ensures { OnOk result (step_of steps.new ≡ record (step_of steps.old) {
       sends = (step_of steps.old).sends ++ map (message_of_act (primary_of roster.now)) (items acts);

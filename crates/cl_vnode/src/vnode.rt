@@ -3,6 +3,8 @@ ghost use Rattle.cl_part.specs.State.{IsBelowNext};
 
 use crate::admitting::{may_come, may_come_to_standby};
 use crate::news::{News, news_at};
+use crate::noted::Noted;
+use crate::noting::tell_firm_after;
 use crate::participant::{ask, finish, is_full, prepare};
 use crate::sending::{decide_in, reply, send_all, send_to_primary};
 use crate::shipping::{ship, tell_firm_at_once};
@@ -12,7 +14,7 @@ use cl_control::{ActList, Control};
 use cl_log::{LOG_NUMBER_MAX, LogRec};
 use cl_part::Part;
 use cl_repair::{Mode, Modes};
-use cl_roster::{Roles, Roster, rosters_are_lawful};
+use cl_roster::{Roles, Roster, RosterEntry};
 use cl_steps::Steps;
 use cl_store::Store;
 use cl_types::{Answer, Command, NoMemory, Refused, TxnId};
@@ -40,6 +42,7 @@ impl Vnode {
     ghost use Rattle.cl_control.specs.Calls.{MayCommand, command_acts, counts_number, vote_acts};
     ghost use Rattle.cl_log.specs.Log.{entries, next_number};
     ghost use Rattle.cl_log.specs.LogEntry.{content_at};
+    ghost use Rattle.cl_roster.specs.Roles.{roles_after};
     ghost use Rattle.cl_steps.specs.Steps.{step_of};
     ghost use Rattle.cl_store.specs.Store.{stored};
     ghost use Rattle.cl_types.specs.GrowingList.{items};
@@ -48,6 +51,7 @@ impl Vnode {
     ghost use Rattle.cl_wire.specs.Message.{content_of};
     ghost use Rattle.cl_vnode.specs.Inputs as inputs;
     ghost use Rattle.cl_vnode.specs.Inputs.{Fits, IsSpentWhere, MayCome, StandbyFits, TakesRecord, has_decide, is_spent, is_standby_spent};
+    ghost use Rattle.cl_vnode.specs.Noting.{NoteFits, left_alone, noted_replica, primary_after};
     ghost use Rattle.cl_vnode.specs.Replica.{ReplicaState, IsReplicaStateOf, is_busy, new_replica, safe_number};
     ghost use Rattle.cl_vnode.specs.Sending.{AreActs, HasStepped, primary_of, told_at};
     ghost use Rattle.cl_vnode.specs.Standby.{standby_stepped, with_record};
@@ -119,9 +123,10 @@ impl Vnode {
     {
         let last = self.part.log.last();
         let safe = self.safe_number();
+        let roster = Noted::so_far(roster);
         let mut steps = Steps::new(self.alloc);
-        self.take(roster, &mut steps, from, body)?;
-        self.tell_safe(roster, &mut steps, safe)?;
+        self.take(&roster, &mut steps, from, body)?;
+        self.tell_safe(&roster, &mut steps, safe)?;
         Ok(self.ship(steps, last)?)
     }
 
@@ -152,6 +157,68 @@ impl Vnode {
             tell_firm(&mut steps, content)?;
             steps.send(from, Body::LogAck(*v, *number))?;
         }
+        Ok(steps)
+    }
+
+    /// Whether the replica may note an entry after this roster. A caller that keeps to the order need
+    /// not ask.
+    pub fn may_note(&self, before: &Roster) -> bool
+        ensures admitted { IsTrue result → (state : ReplicaState) × IsReplicaStateOf self.now state × NoteFits before.now state }
+        ensures refused { (state : ReplicaState) → IsReplicaStateOf self.now state → NoteFits before.now state → IsTrue result }
+    {
+        before.nodes() == self.control.nodes() && self.v < before.nodes()
+    }
+
+    /// Notes an entry of the roster, with the roster before it, and gives what is to be sent.
+    ///
+    /// The stop of its standby leaves a primary alone: all records of its log are safe, what waited is
+    /// told, and the transactions whose Decide waited are firm now. The stop of its primary makes a
+    /// standby primary, which is alone: its log is safe as it stands, and nothing is told, since each
+    /// Decide in it was firm when it was taken. Any other stop and a repair leave the replica as it is.
+    /// After an error the replica may only be dropped. It costs two look-ups in the log for each record
+    /// that waited, and nothing otherwise.
+    pub fn note(&mut self, before: &Roster, entry: RosterEntry) -> Result<Steps, Refused>
+        requires { (state : ReplicaState) × IsReplicaStateOf self.old state × NoteFits before.now state }
+        ensures step { (state : ReplicaState) → IsReplicaStateOf self.old state → IfOk result (λ steps.
+            let after = noted_replica (primary_after before.now entry) (roles_after before.now.nodes before.now.entries state.v) state entry in
+            IsReplicaStateOf self.new after.state × (step_of steps ≡ after.step)) }
+        ensures spent { IsSpentWhere false result }
+    {
+        match entry {
+            RosterEntry::Stopped(node) => Ok(self.note_stop(before, node)?),
+            RosterEntry::Repaired(..) => Ok(Steps::new(self.alloc)),
+        }
+    }
+
+    // Notes the stop of a node.
+    fn note_stop(&mut self, before: &Roster, node: u32) -> Result<Steps, NoMemory>
+        requires { (state : ReplicaState) × IsReplicaStateOf self.old state × NoteFits before.now state }
+        ensures { (state : ReplicaState) → IsReplicaStateOf self.old state
+            → IfOk result (λ steps. HasStepped self.new steps (noted_replica (primary_after before.now (RosterEntry.Stopped node))
+            (roles_after before.now.nodes before.now.entries state.v) state (RosterEntry.Stopped node))) }
+    {
+        let roles = before.roles(before.len(), self.v);
+        if roles.primary == node {
+            self.modes.go_on_alone();
+            return Ok(Steps::new(self.alloc));
+        }
+        if roles.is_standby(node) {
+            return self.left_alone(&Noted::with(before, RosterEntry::Stopped(node)));
+        }
+        Ok(Steps::new(self.alloc))
+    }
+
+    // The standby has stopped: what waited is safe, and told.
+    fn left_alone(&mut self, roster: &Noted<'_>) -> Result<Steps, NoMemory>
+        requires { roster.now.nodes ≡ self.old.control.nodes }
+        ensures { (state : ReplicaState) → IsReplicaStateOf self.old state
+            → IfOk result (λ steps. HasStepped self.new steps (left_alone (primary_of roster.now) state)) }
+    {
+        let safe = self.safe_number();
+        let mut steps = Steps::new(self.alloc);
+        tell_firm_after(&self.part.log, &mut steps, safe)?;
+        self.modes.go_on_alone();
+        self.tell_safe(roster, &mut steps, safe)?;
         Ok(steps)
     }
 
@@ -210,7 +277,7 @@ impl Vnode {
     // Takes an input of any kind. The mark of an operation stands in what the step gives.
     fn take(
         &mut self,
-        roster: &Roster,
+        roster: &Noted<'_>,
         steps: &mut Steps,
         from: u32,
         body: &Body,
@@ -248,7 +315,7 @@ impl Vnode {
     // Takes a client's command.
     fn command(
         &mut self,
-        roster: &Roster,
+        roster: &Noted<'_>,
         steps: &mut Steps,
         txn: TxnId,
         number: u32,
@@ -262,7 +329,7 @@ impl Vnode {
             (has_decide (command_acts self.old.control txn number what.now) && inputs.is_full (next_number self.old.part.log)) result }
         ensures nodes { OnOk result (self.new.control.nodes ≡ self.old.control.nodes) }
     {
-        rosters_are_lawful(roster);
+        let _nodes = roster.nodes();
         let acts = self.control.command(txn, number, what)?;
         self.perform(roster, steps, acts)
     }
@@ -270,7 +337,7 @@ impl Vnode {
     // Takes a participant's answer.
     fn answer(
         &mut self,
-        roster: &Roster,
+        roster: &Noted<'_>,
         steps: &mut Steps,
         v: u32,
         txn: TxnId,
@@ -292,7 +359,7 @@ impl Vnode {
     // Takes a participant's vote.
     fn vote(
         &mut self,
-        roster: &Roster,
+        roster: &Noted<'_>,
         steps: &mut Steps,
         v: u32,
         txn: TxnId,
@@ -309,7 +376,12 @@ impl Vnode {
     }
 
     // Performs the acts of a command or a vote: one Decide, or messages.
-    fn perform(&mut self, roster: &Roster, steps: &mut Steps, acts: ActList) -> Result<(), Refused>
+    fn perform(
+        &mut self,
+        roster: &Noted<'_>,
+        steps: &mut Steps,
+        acts: ActList,
+    ) -> Result<(), Refused>
         requires { AreActs roster.now.nodes self.old.control (items acts) }
         ensures step { (before : Stepped) → HasStepped self.old steps.old before → OnOk result
             (HasStepped self.new steps.new (all_performed (primary_of roster.now) before (items acts))) }
@@ -340,7 +412,7 @@ impl Vnode {
     }
 
     // Tells what became safe since the log was safe up to this number.
-    fn tell_safe(&mut self, roster: &Roster, steps: &mut Steps, old: u64) -> Result<(), NoMemory>
+    fn tell_safe(&mut self, roster: &Noted<'_>, steps: &mut Steps, old: u64) -> Result<(), NoMemory>
         requires { roster.now.nodes ≡ self.old.control.nodes }
         ensures step { (before : Stepped) → HasStepped self.old steps.old before → OnOk result
             (HasStepped self.new steps.new (all_told (primary_of roster.now) old before)) }
@@ -353,7 +425,7 @@ impl Vnode {
     }
 
     // Tells that the record of this number is safe.
-    fn tell(&mut self, roster: &Roster, steps: &mut Steps, number: u64) -> Result<(), NoMemory>
+    fn tell(&mut self, roster: &Noted<'_>, steps: &mut Steps, number: u64) -> Result<(), NoMemory>
         requires { roster.now.nodes ≡ self.old.control.nodes }
         ensures step { (before : Stepped) → HasStepped self.old steps.old before → OnOk result
             (HasStepped self.new steps.new (told_at (primary_of roster.now) before number (content_at (entries self.old.part.log) number))) }

@@ -3,6 +3,7 @@ use Rattle.std.proofs.Common.{List, OnOk, sym, ap, ◌∙◌, subst, refl}
 use Rattle.cl_control.specs.declared.acts.Act.{Act}
 use Rattle.cl_control.specs.Calls.{command_acts, after_command}
 use Rattle.cl_control.specs.State.{ControlState}
+use Rattle.cl_types.specs.Placement.{IsNodeCount}
 use Rattle.cl_vnode.specs.Sending.{AreActs, HasStepped, primary_of}
 use Rattle.cl_part.proofs.States.{OnOk-map}
 use Rattle.cl_vnode.specs.Step.{Stepped, commanded, with_control, all_performed}
@@ -12,9 +13,11 @@ use Rattle.cl_vnode.proofs.vnode.Vnode.command.Goals as goal
 
 pub perform-requires : goal.perform-requires
 perform-requires c =
+    let counted : IsNodeCount c.args.roster.now.nodes = subst IsNodeCount c.nodes-nodes.ensures.nodes c.nodes-nodes.ensures.counted in
     subst (AreActs c.args.roster.now.nodes c.command.new.self) (sym c.in_ok-acts.ensures.acts)
     (subst (λ (s : ControlState). AreActs c.args.roster.now.nodes s (command_acts c.args.self.now.control c.args.txn c.args.number c.args.what.now)) (sym c.in_ok-acts.ensures.state)
-    (command_acts_are_acts c.args.roster.now.nodes c.args.self.now.control c.args.txn c.args.number c.args.what.now c.rosters_are_lawful.ensures.size.counted c.requires.nodes c.requires.may))
+    (command_acts_are_acts c.args.roster.now.nodes c.args.self.now.control c.args.txn c.args.number c.args.what.now counted
+    c.requires.nodes c.requires.may))
 
 pub returns-clause-step : goal.returns-clause-step
 unfolding commanded

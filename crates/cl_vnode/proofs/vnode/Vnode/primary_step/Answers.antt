@@ -4,13 +4,14 @@ use Rattle.std.proofs.lemmas.Result.{err_from_is_err_and}
 use Rattle.cl_types.specs.declared.answers.Refused.{Refused}
 use Rattle.cl_types.specs.declared.answers.Refused.TheVariants.{NoMemory, Spent}
 use Rattle.cl_log.proofs.LogWords.{one-le-next_number}
+use Rattle.cl_roster.specs.View.{RosterView}
 use Rattle.cl_steps.specs.declared.steps.Steps.{Steps}
 use Rattle.cl_steps.specs.Steps.{Step}
 use Rattle.cl_wire.specs.Message.{Content, content_of}
 use Rattle.cl_vnode.specs.Inputs.{IsSpentWhere, is_spent}
 use Rattle.cl_vnode.specs.Replica.{safe_number}
 use Rattle.cl_vnode.specs.Sending.{HasStepped, primary_of}
-use Rattle.cl_vnode.specs.Step.{Stepped, started, taken, all_told, shipped}
+use Rattle.cl_vnode.specs.Step.{Stepped, started, taken, all_told, shipped, stepped}
 use Rattle.cl_vnode.proofs.vnode.Vnode.primary_step.Goals as goal
 
 -- a refusal says the same of the whole step
@@ -25,7 +26,7 @@ returns-in_err-take-clause-spent c before is =
 
 pub returns-clause-step : goal.returns-clause-step
 returns-clause-step c before is =
-    let primary : ℕ → ℕ = primary_of c.args.roster.now in
+    let primary : ℕ → ℕ = primary_of c.so_far-roster.result in
     let content : Content = content_of c.args.body.now in
     let input : Stepped = taken primary (started before) c.args.from content c.take.new.steps.short in
     let told : Stepped = all_told primary (safe_number before) input in
@@ -45,4 +46,7 @@ returns-clause-step c before is =
     (shipped before.part.next (all_told primary (safe_number before) (taken primary (started before) c.args.from content c.in_ok-ship.field-0.short))) =
     subst (λ (b : Bool). HasStepped c.tell_safe.new.self c.in_ok-ship.field-0
     (shipped before.part.next (all_told primary (safe_number before) (taken primary (started before) c.args.from content b)))) (sym mark) ships in
-    (marked.state, marked.step)
+    let done : RosterView → Stepped = λ roster. stepped (primary_of roster) before c.args.from content c.in_ok-ship.field-0.short in
+    let here : HasStepped c.tell_safe.new.self c.in_ok-ship.field-0 (done c.args.roster.now) =
+    subst (λ (roster : RosterView). HasStepped c.tell_safe.new.self c.in_ok-ship.field-0 (done roster)) c.so_far-roster.ensures marked in
+    (here.state, here.step)
