@@ -2,6 +2,8 @@
 #![tactic(auto)]
 
 #[cfg(test)]
+mod noting;
+#[cfg(test)]
 mod pair;
 #[cfg(test)]
 mod primaries;
