@@ -1,13 +1,14 @@
 -- How a core and an endpoint make an actor.
-use Rattle.std.specs.Prelude.{◌≡◌, ℕ, ◌<◌, Bool, true, false, ◌&&◌, ◌||◌, if◌then◌else◌, List, Option, None}
+use Rattle.std.specs.Prelude.{◌≡◌, ℕ, ◌<◌, Bool, true, false, ◌&&◌, ◌||◌, if◌then◌else◌, List, Option, None, Some}
 use Rattle.std.specs.List.{All}
 use Rattle.cl_endpoint.specs.declared.limits.TheConstants.{ACTORS}
 use Rattle.cl_endpoint.specs.declared.received.Received.{Received}
 use Rattle.cl_endpoint.specs.declared.received.Received.TheVariants.{Now}
 use Rattle.cl_endpoint.specs.Emission.{emitted, after_emit}
-use Rattle.cl_endpoint.specs.Endpoint.{EndpointState, received, after_receive, owed_to, after_gives, is_spent_to, after_tick}
+use Rattle.cl_endpoint.specs.Endpoint.{EndpointState, received, after_receive, owed_to, after_gives, is_spent_to, after_tick, after_note}
 use Rattle.cl_lines.specs.declared.out.Out.{Out}
 use Rattle.cl_post.specs.Steps.{Input, handle, tick, feed, quiet, OutsData, no_outs}
+use Rattle.cl_roster.specs.declared.entry.RosterEntry.{RosterEntry}
 use Rattle.cl_steps.specs.Steps.{Step, nothing_done, receivers}
 use Rattle.cl_wire.specs.Message.{Message, Content}
 use Rattle.cl_actor.specs.Core.{Noted, CoreStep}
@@ -92,6 +93,21 @@ pub record HandlingFits {S : Type 0} (delivered : Noted → S → ℕ → Conten
 -- after a tick each message that is kept is due again
 abbrev pub ticked : {S : Type 0} → ActingState S → ActingState S × OutsData
 ticked before = finished (unmoved before.core) (after_tick before.endpoint) None
+
+-- an entry of the roster is noted: the core takes its step by what was noted before
+abbrev pub entry_noted : {S : Type 0} → (Noted → S → RosterEntry → CoreStep S) → ActingState S → RosterEntry → ActingState S × OutsData
+entry_noted noted before entry = finished (noted (noted_in before.endpoint) before.core entry) (after_note before.endpoint entry) None
+
+-- an endpoint notes the entry that is offered, if there is one
+abbrev pub after_offer : EndpointState → Option RosterEntry → EndpointState
+after_offer endpoint None = endpoint
+after_offer endpoint (Some entry) = after_note endpoint entry
+
+-- a node is to stop: what the core offers is noted in the same step
+abbrev pub stop_asked : {S : Type 0} → (Noted → S → ℕ → CoreStep S) → ActingState S → ℕ → ActingState S × OutsData
+stop_asked stopped before n =
+    let stepped = stopped (noted_in before.endpoint) before.core n in
+    finished stepped (after_offer before.endpoint stepped.step.entry) None
 
 -- by the steps that a core makes on lines
 module _ {S : Type 0} (fed : Noted → S → ℕ → List ℕ → List Out → CoreStep S) where

@@ -14,7 +14,7 @@ use Rattle.cl_lines.specs.declared.line.Line.TheVariants.{Client, Operator}
 use Rattle.cl_lines.specs.declared.line.LineFault.{LineFault}
 use Rattle.cl_lines.specs.declared.out.Out.{Out}
 use Rattle.cl_lines.specs.declared.out.Out.TheVariants.{Answer, BadLine}
-use Rattle.cl_runs.specs.Queues.{QueueEvent, deliver, take_line, quieten, nothing}
+use Rattle.cl_runs.specs.Queues.{QueueEvent, deliver, take_line, quieten}
 use Rattle.cl_runs.specs.World.{Shape}
 use Rattle.cl_serial.specs.Serial.{StandsAt}
 use Rattle.cl_serial.specs.Transcript.{TranscriptEntry, fed, written, quiet}
@@ -152,4 +152,4 @@ module _ (shape : Shape) (world : ReplicaWorld) where
       subst (λ list. AddsEntries world (deliver from to mark) (after_first shape world from to mark list).front.transcript) (sym may.2) (message_adds from to may.0 may.1 mark may.2)
   event_adds (take_line number text said) may = line_adds number text said
   event_adds quieten may = noted refl refl
-  event_adds nothing may = plain [] (sym (append-nil world.front.transcript)) tt
+  event_adds other may = plain [] (sym (append-nil world.front.transcript)) tt

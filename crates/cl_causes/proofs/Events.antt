@@ -17,7 +17,7 @@ use Rattle.cl_order.specs.Ledger.{Ledger}
 use Rattle.cl_order.specs.Operations.{mode_of}
 use Rattle.cl_part.specs.Calls.{answer_to}
 use Rattle.cl_roster.specs.Roster.{IsClusterSize}
-use Rattle.cl_runs.specs.Queues.{QueueEvent, deliver, take_line, quieten, nothing}
+use Rattle.cl_runs.specs.Queues.{QueueEvent, deliver, take_line, quieten}
 use Rattle.cl_runs.specs.World.{Shape}
 use Rattle.cl_serial.specs.Serial.{StandsAt, AnswersFitTurns}
 use Rattle.cl_serial.specs.Transcript.{TranscriptEntry, written, quiet, questions, answers}
@@ -338,8 +338,7 @@ module _ (shape : Shape) (size : IsClusterSize shape.nodes shape.spares) (state 
   mail_for (take_line number text said) takes a b =
       with_mail_all (Says Then ThenHeld new) world.mail FRONT (fed_front (nothing_noted shape) world.front number text said).step.sends old_said
       (front_said Then ThenHeld new shape.nodes _ nodes_few some (line_sends shape world.front number text said)) a b
-  mail_for quieten quietens a b = old_said a b
-  mail_for nothing none a b = old_said a b
+  mail_for other none a b = old_said a b
 
   -- ---- locks
 
@@ -363,8 +362,7 @@ module _ (shape : Shape) (size : IsClusterSize shape.nodes shape.spares) (state 
       subst (λ list. AreOwn ((after_first shape world from to mark list).replicas v).part.grants) (sym here.2)
       (message_own from to here.0 here.1 mark (first_addressed shape world from to here.0 here.1 sound here.2) v)
   own_for (take_line number text said) takes v = so.own v
-  own_for quieten quietens v = so.own v
-  own_for nothing none v = so.own v
+  own_for other none v = so.own v
 
   -- ---- all of it
 

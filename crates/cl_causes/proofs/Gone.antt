@@ -21,7 +21,7 @@ use Rattle.cl_log.proofs.Open.{is_open-stage}
 use Rattle.cl_lone.specs.Lone.{lone_step}
 use Rattle.cl_node.specs.Addressing.{home_in}
 use Rattle.cl_roster.specs.Roster.{IsClusterSize}
-use Rattle.cl_runs.specs.Queues.{QueueEvent, deliver, take_line, quieten, nothing}
+use Rattle.cl_runs.specs.Queues.{QueueEvent, deliver, take_line}
 use Rattle.cl_runs.specs.World.{Shape}
 use Rattle.cl_steps.specs.declared.actors.TheConstants.{FRONT}
 use Rattle.cl_steps.specs.declared.steps.Outgoing.{Outgoing}
@@ -288,5 +288,4 @@ module _ (shape : Shape) (size : IsClusterSize shape.nodes shape.spares) (world 
         subst (λ list. IsGone shape (after_first shape world from to mark list) txn) (sym may.2)
         (message_leaves from to may.0 may.1 mark (first_addressed shape world from to may.0 may.1 sound may.2) may.2)
     stays_gone (take_line number text said) may = front_leaves world.mail (fed_front (nothing_noted shape) world.front number text said).state (fed_front (nothing_noted shape) world.front number text said).step.sends (world.lines + 1) (λ a b apart. refl)
-    stays_gone quieten may = gone
-    stays_gone nothing may = gone
+    stays_gone other may = gone

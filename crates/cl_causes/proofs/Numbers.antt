@@ -11,7 +11,7 @@ use Rattle.cl_lines.specs.Line.{line_of}
 use Rattle.cl_lines.specs.declared.line.Line.{Line}
 use Rattle.cl_lines.specs.declared.line.Line.TheVariants.{Client, Operator}
 use Rattle.cl_lines.specs.declared.line.LineFault.{LineFault}
-use Rattle.cl_runs.specs.Queues.{QueueEvent, deliver, take_line, quieten, nothing}
+use Rattle.cl_runs.specs.Queues.{QueueEvent, deliver, take_line}
 use Rattle.cl_runs.specs.World.{Shape}
 use Rattle.cl_serial.specs.Transcript.{fed}
 use Rattle.cl_steps.specs.Steps.{nothing_done}
@@ -150,5 +150,4 @@ event_fit shape world (deliver from to mark) all = by (world.mail from to)
         cond_both (eqb to FRONT) (front_acts off (delivered_front (nothing_noted shape) world.front from content mark)) (replica_acts off to (lone_step own_primary (world.replicas to) from content mark))
         (λ (w : ReplicaWorld). AreFit w.front.sessions) (λ here. content_fit (nothing_noted shape) world.front from content mark all) (λ elsewhere. all)
 event_fit shape world (take_line number text said) all = line_fit (nothing_noted shape) (with_entries world.front (fed number text ∷ [])) number (line_of text) all
-event_fit shape world quieten all = all
-event_fit shape world nothing all = all
+event_fit shape world other all = all

@@ -1,11 +1,13 @@
 -- Cores and queues are alike to the front, primaries and standbys, and what is on its way.
 use Rattle.std.proofs.Common.{◌≡◌, ◌≢◌, ℕ, ◌+◌, ◌<◌, eqb, ltb, cond, ◌&&◌, Bool, true, false, List, [], ◌∷◌, ◌++◌, length, All, Result}
-use Rattle.std.proofs.Common.{Ok, Err, refl, sym, ◌∙◌, ap, subst}
+use Rattle.std.proofs.Common.{Ok, Err, Some, slice_get, refl, sym, ◌∙◌, ap, subst}
 use Rattle.std.proofs.lemmas.Bool.{eqb-true, eqb-false, eq-eqb, ne_eqb, ltb-true, ltb-false, cond-false, cond_both}
 use Rattle.std.proofs.lemmas.List.{map-append}
 use Rattle.std.proofs.lemmas.List.Elements.{All-nil, All-cons, All-tail, All-append, All-head}
+use Rattle.std.proofs.lemmas.Option.{none-some}
 use Rattle.cl_types.specs.Placement.{IsNodeCount}
 use Rattle.cl_types.specs.declared.operations.TxnId.{TxnId}
+use Rattle.cl_actor.specs.Acting.{unmoved}
 use Rattle.cl_actor.specs.Core.{Noted, CoreStep}
 use Rattle.cl_front.specs.Front.{FrontState, delivered_front, fed_front, fed_as, with_entries}
 use Rattle.cl_front.specs.Sessions.{is_awaited}
@@ -17,7 +19,8 @@ use Rattle.cl_lines.specs.declared.out.Out.{Out}
 use Rattle.cl_node.specs.Members.{standby_node, backed_up}
 use Rattle.cl_pairs.specs.Pairs.{PairWorld, front_acts, primary_acts, standby_acts, logged_at, replica_acts, after_message, after_first, after_pair_event}
 use Rattle.cl_roster.specs.declared.entry.RosterEntry.{RosterEntry}
-use Rattle.cl_runs.specs.Queues.{Tagged, tagged, contents_of, sent_to, with_sends, with_queue, QueueWorld, deliver, take_line, quieten, nothing}
+use Rattle.cl_runs.specs.Queues.{Tagged, tagged, contents_of, sent_to, with_sends, with_queue, QueueWorld, MayNoteNext, deliver, note_next, take_line, stop_node, quieten, nothing}
+use Rattle.cl_runs.proofs.QueueSteps.{after_step-unmoved}
 use Rattle.cl_runs.specs.Queues.{noted_by, after_step, after_delivery, after_queue_event}
 use Rattle.cl_runs.specs.World.{Shape, with_firm}
 use Rattle.cl_seen.specs.Ways.{IsPairAddressed}
@@ -42,16 +45,22 @@ alike_at_first shape size = record {
   noted = λ actor. refl;
   mail = λ from to. refl;
   tags = λ from to. All-nil (λ (message : Tagged). message.tag ≡ 0);
+  roster = refl;
   history = refl;
   lines = refl;
 }
+
+-- there is no entry to note
+nothing_next : (shape : Shape) (cores : QueueWorld Core) (world : PairWorld) (actor : ℕ) → AreAlike shape cores world → MayNoteNext shape cores actor → ⊥
+nothing_next shape cores world actor alike may =
+    none-some may.entry (subst (λ (roster : List RosterEntry). slice_get roster (length (cores.noted actor)) ≡ Some may.entry) alike.roster may.next)
 
 -- what may happen to cores and queues may happen to pairs
 pub alike_may : AlikeMay
 alike_may shape cores world (deliver from to mark) alike may = (may.head.content, contents_of may.rest, sym (alike.mail from to) ∙ ap contents_of may.waits)
 alike_may shape cores world (take_line number text said) alike may = (may.next ∙ ap (λ n. n + 1) alike.lines, may.silent)
-alike_may shape cores world quieten alike may = tt
-alike_may shape cores world nothing alike may = tt
+alike_may shape cores world (note_next actor) alike may = nothing_next shape cores world actor alike may
+alike_may shape cores world other alike may = tt
 
 -- ---- queues and mail
 
@@ -100,6 +109,7 @@ module _ (shape : Shape) where
         (world.mail giver receiver) refl (alike.mail giver receiver);
     tags = λ giver receiver. cond_both (eqb receiver to && eqb giver from) rest (cores.queues giver receiver) (All (λ (message : Tagged). message.tag ≡ 0))
         (λ here. tags) (λ elsewhere. alike.tags giver receiver);
+    roster = alike.roster;
     history = alike.history;
     lines = alike.lines;
   }
@@ -130,9 +140,15 @@ module _ (shape : Shape) where
         noted = alike.noted;
         mail = given_mail cores world alike FRONT stepped.step.sends;
         tags = given_tags cores world alike FRONT stepped.step.sends;
+        roster = alike.roster;
         history = ap (with_firm cores.history) none ∙ alike.history;
         lines = alike.lines;
       })
+
+  -- a core that stays as it is, and gives nothing
+  unmoved_alike : (cores : QueueWorld Core) (world : PairWorld) → AreAlike shape cores world →
+      AreAlike shape (after_step cores FRONT (unmoved (cores.cores FRONT))) world
+  unmoved_alike cores world alike = subst (λ (same : QueueWorld Core). AreAlike shape same world) (sym (after_step-unmoved cores FRONT)) alike
 
   -- the primary of a node takes the step
   primary_alike : (cores : QueueWorld Core) (world : PairWorld) (v : ℕ) (core : CoreStep Core) (stepped : Stepped) → AreAlike shape cores world → v ≢ FRONT →
@@ -145,6 +161,7 @@ module _ (shape : Shape) where
         noted = alike.noted;
         mail = given_mail cores world alike v stepped.step.sends;
         tags = given_tags cores world alike v stepped.step.sends;
+        roster = alike.roster;
         history = ap (λ (history : List TxnId). with_firm history stepped.step.firm) alike.history;
         lines = alike.lines;
       })
@@ -168,6 +185,7 @@ module _ (shape : Shape) where
         noted = alike.noted;
         mail = given_mail cores world alike behind stepped.step.sends;
         tags = given_tags cores world alike behind stepped.step.sends;
+        roster = alike.roster;
         history = ap (λ (history : List TxnId). with_firm history stepped.step.firm) alike.history;
         lines = alike.lines;
       })
@@ -308,6 +326,7 @@ events_keep_alike shape cores world (take_line number text said) size alike are 
       noted = alike.noted;
       mail = alike.mail;
       tags = alike.tags;
+      roster = alike.roster;
       history = alike.history;
       lines = ap (λ n. n + 1) alike.lines;
     } in
@@ -321,7 +340,10 @@ events_keep_alike shape cores world quieten size alike are may = record {
   noted = alike.noted;
   mail = alike.mail;
   tags = alike.tags;
+  roster = alike.roster;
   history = alike.history;
   lines = alike.lines;
 }
+events_keep_alike shape cores world (note_next actor) size alike are may = absurd (nothing_next shape cores world actor alike may)
+events_keep_alike shape cores world (stop_node n) size alike are may = unmoved_alike shape cores world alike
 events_keep_alike shape cores world nothing size alike are may = alike

@@ -9,7 +9,7 @@ use Rattle.cl_roster.specs.Roster.{IsClusterSize}
 use Rattle.cl_runs.proofs.Runs.{runs_are_queue_runs, packets_are_faithful}
 use Rattle.cl_runs.specs.Laws.{IsFaithful}
 use Rattle.cl_runs.specs.Queues.{watched_after, QueueWorld, QueueEvent, after_queue_event, IsQueueEnabled, first_queue_world, queue_world_after, IsQueueRun}
-use Rattle.cl_runs.specs.World.{Shape, World, handle, tick, feed, quiet, endpoints_of, EachMayHappen, world_after}
+use Rattle.cl_runs.specs.World.{Shape, World, handle, feed, endpoints_of, EachMayHappen, world_after}
 use Rattle.cl_seen.proofs.Runs.{each_append, each_parts, holds_of_all, pairs_push}
 use Rattle.cl_seen.specs.Laws.{PairInputsFit, PairMessagesAreAddressed}
 use Rattle.cl_system.specs.System.{Core, delivered_core, system}
@@ -81,7 +81,6 @@ every_input_fits addressed_all inputs_fit shape run (handle actor id) size wide 
     let emitted : Contains world.packets m = All-slice_get (Contains world.packets) world.packets (id - 1) m (All-contains_itself world.packets) found in
     subst (λ n. HandlingFits (delivered_core n) CoreDeliveryFits (world.actors n) m) here
     (packet_fits shape run size wide (runs_are_pair_runs addressed_all shape run size wide) addressed_all inputs_fit m emitted faithful.sender)
-every_input_fits addressed_all inputs_fit shape run (tick actor) size wide may = tt
 every_input_fits addressed_all inputs_fit shape run (feed number text said) size wide may =
     feeding_fits shape run size wide (runs_are_pair_runs addressed_all shape run size wide) addressed_all inputs_fit number text said may
-every_input_fits addressed_all inputs_fit shape run quiet size wide may = tt
+every_input_fits addressed_all inputs_fit shape run other size wide may = tt

@@ -21,6 +21,8 @@ pub record AreAlike (shape : Shape) (cores : QueueWorld Core) (pairs : PairWorld
   pub noted : (actor : ℕ) → cores.noted actor ≡ []
   pub mail : (from to : ℕ) → contents_of (cores.queues from to) ≡ pairs.mail from to
   pub tags : (from to : ℕ) → All (λ message. message.tag ≡ 0) (cores.queues from to)
+  -- nobody has stopped
+  pub roster : cores.roster ≡ []
   pub history : cores.history ≡ pairs.history
   pub lines : cores.lines ≡ pairs.lines
 

@@ -5,7 +5,7 @@ use Rattle.cl_actor.specs.Core.{Noted}
 use Rattle.cl_front.specs.Front as at_front
 use Rattle.cl_lines.specs.declared.out.Out.{Out}
 use Rattle.cl_node.specs.Node as at_node
-use Rattle.cl_runs.specs.World.{World, Happening, handle, tick, feed, quiet, packet_at}
+use Rattle.cl_runs.specs.World.{World, Happening, handle, feed, packet_at}
 use Rattle.cl_steps.specs.declared.actors.TheConstants.{FRONT}
 use Rattle.cl_system.specs.System.{Core, front, node, delivered_core, fed_core}
 use Rattle.cl_wire.specs.Message.{Content, Message}
@@ -23,6 +23,5 @@ CoreLineFits noted (node state) number text said = at_node.AnyLineFits noted sta
 -- what an event brings to its actor fits the actor
 abbrev pub HappeningFits : World Core → Happening → Type 0
 HappeningFits world (handle actor id) = (m : Message) → packet_at world id ≡ Some m → HandlingFits (delivered_core actor) CoreDeliveryFits (world.actors actor) m
-HappeningFits world (tick actor) = Unit {0}
 HappeningFits world (feed number text said) = FeedingFits (fed_core FRONT) CoreLineFits (world.actors FRONT) number text said
-HappeningFits world quiet = Unit {0}
+HappeningFits world other = Unit {0}

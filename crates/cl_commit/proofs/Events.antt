@@ -19,7 +19,7 @@ use Rattle.cl_log.specs.declared.stage.Stage.TheVariants.{Unknown}
 use Rattle.cl_lone.specs.Lone.{lone_step}
 use Rattle.cl_node.specs.Addressing.{home_in}
 use Rattle.cl_roster.specs.Roster.{IsClusterSize}
-use Rattle.cl_runs.specs.Queues.{QueueEvent, deliver, take_line, quieten, nothing}
+use Rattle.cl_runs.specs.Queues.{QueueEvent, deliver, take_line, quieten}
 use Rattle.cl_runs.specs.World.{Shape}
 use Rattle.cl_serial.specs.Transcript.{fed}
 use Rattle.cl_steps.specs.declared.actors.TheConstants.{FRONT}
@@ -234,7 +234,7 @@ module _ (shape : Shape) (size : IsClusterSize shape.nodes shape.spares) (world 
         settled = settled-front shape few some world world.mail (world.lines + 1) done.state done.step.sends (λ a b apart. refl) (move-fed number text said);
       }
   event-kept quieten may = kept-quiet
-  event-kept nothing may = kept-same
+  event-kept other may = kept-same
 
 -- ---- the laws
 

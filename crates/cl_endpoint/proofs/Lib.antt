@@ -5,3 +5,4 @@ pub mod Gives
 pub mod InTurn
 pub mod Carried
 pub mod Receiving
+pub mod Noting

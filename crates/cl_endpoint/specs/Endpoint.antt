@@ -1,11 +1,12 @@
 -- What an endpoint knows, and what each call but emission makes of it.
-use Rattle.std.specs.Prelude.{ℕ, ◌+◌, ◌==◌, nat_lt, Bool, if◌then◌else◌, not, List, [], length, map, replicate, Option, Some, None, slice_index_or, slice_set}
+use Rattle.std.specs.Prelude.{ℕ, ◌+◌, ◌==◌, nat_lt, Bool, if◌then◌else◌, not, List, [], ◌∷◌, ◌++◌, length, map, replicate, Option, Some, None, slice_index_or, slice_set}
 use Rattle.std.specs.List.{fold, count_by, list_any}
 use Rattle.cl_link.specs.declared.link.TheConstants.{NUMBER_MAX}
 use Rattle.cl_link.specs.declared.link.Taken.{Taken}
 use Rattle.cl_link.specs.declared.link.Taken.TheVariants as takes
-use Rattle.cl_link.specs.LinkState.{LinkState, no_message, last_number, taken_of, after_send, after_accept, after_heard, after_again}
+use Rattle.cl_link.specs.LinkState.{LinkState, no_message, last_number, taken_of, after_send, after_accept, after_heard, after_again, after_drop_all}
 use Rattle.cl_roster.specs.declared.entry.RosterEntry.{RosterEntry}
+use Rattle.cl_roster.specs.declared.entry.RosterEntry.TheVariants.{Stopped, Repaired}
 use Rattle.cl_roster.specs.Roster.{has_stopped}
 use Rattle.cl_steps.specs.declared.steps.Outgoing.{Outgoing}
 use Rattle.cl_wire.specs.Message.{Content}
@@ -88,6 +89,15 @@ is_spent_by state sends = is_spent_to state (map (λ send. send.to) sends)
 -- each message that is kept is due again
 unfoldable pub after_tick : EndpointState → EndpointState
 after_tick state = record state { links = map after_again state.links }
+
+-- what is kept for a node that has stopped is dropped
+abbrev pub dropped_for : EndpointState → RosterEntry → EndpointState
+dropped_for state (Stopped n) = with_link state n (after_drop_all (link_to state n))
+dropped_for state (Repaired v n) = state
+
+-- an entry of the roster is noted
+unfoldable pub after_note : EndpointState → RosterEntry → EndpointState
+after_note state entry = dropped_for (record state { noted = state.noted ++ entry ∷ [] }) entry
 
 -- some message is kept: given, and neither acknowledged nor dropped
 unfoldable pub is_waiting : EndpointState → Bool

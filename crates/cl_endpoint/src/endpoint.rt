@@ -3,13 +3,13 @@ ghost use Rattle.std.specs.Prelude.{◌≡◌, ◌<◌, ◌↔◌, ◌+◌, ◌�
 ghost use Rattle.std.specs.List.{All};
 ghost use Rattle.cl_link.specs.declared.link.TheConstants.{NUMBER_MAX};
 ghost use Rattle.cl_link.specs.LinkState.{last_number, no_message};
-ghost use Rattle.cl_roster.specs.Roster.{IsClusterSize};
+ghost use Rattle.cl_roster.specs.Roster.{IsClusterSize, IsLawfulEntry};
 ghost use Rattle.cl_types.specs.GrowingList.{items};
-ghost use Rattle.cl_endpoint.specs.Endpoint.{new_endpoint, link_to, set_number, received, after_receive, after_give, after_gives, is_spent_by, after_tick, is_waiting};
+ghost use Rattle.cl_endpoint.specs.Endpoint.{new_endpoint, link_to, set_number, received, after_receive, after_give, after_gives, is_spent_by, after_tick, after_note, is_waiting};
 
 use crate::{ACTORS, Received};
 use cl_link::Link;
-use cl_roster::Roster;
+use cl_roster::{Roster, RosterEntry, rosters_are_lawful};
 use cl_steps::SendList;
 use cl_types::{NoMemory, Refused};
 use cl_wire::Payload;
@@ -136,6 +136,24 @@ impl Endpoint {
         for link in self.links.iter_mut() {
             link.again();
         }
+    }
+
+    /// Notes the next entry of the roster. What is kept for a node that has stopped is dropped.
+    ///
+    /// An `Err` gives up for want of memory; no clause says when. It leaves all as it was.
+    #[tactic(auto, unfolding(crate::specs::Endpoint::after_note))]
+    pub fn note(&mut self, entry: RosterEntry) -> Result<(), NoMemory>
+        requires { IsLawfulEntry self.old.nodes self.old.spares self.old.noted entry }
+        ensures ok { OnOk result (self.new ≡ after_note self.old entry) }
+        ensures err { OnErr result (self.new ≡ self.old) }
+    {
+        // Whose stop may be noted is an actor.
+        rosters_are_lawful(&self.roster);
+        self.roster.push(entry)?;
+        if let RosterEntry::Stopped(node) = entry {
+            self.links[node as usize].drop_all();
+        }
+        Ok(())
     }
 
     /// Whether some message is kept: given, and not acknowledged.

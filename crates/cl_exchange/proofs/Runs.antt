@@ -9,7 +9,7 @@ use Rattle.cl_exchange.proofs.Events.{message_fits, line_fits, message_stages, l
 use Rattle.cl_front.specs.Session.{no_session}
 use Rattle.cl_lone.proofs.Lone.{first_is_calm, steps_stay_calm}
 use Rattle.cl_roster.specs.Roster.{IsClusterSize}
-use Rattle.cl_runs.specs.Queues.{QueueEvent, deliver, take_line, quieten, nothing}
+use Rattle.cl_runs.specs.Queues.{QueueEvent, deliver, take_line}
 use Rattle.cl_runs.specs.World.{Shape}
 use Rattle.cl_system.proofs.Places.{in_place_at_first, events_keep_places}
 use Rattle.cl_system.specs.Replicas.{ReplicaWorld, with_way, after_first, after_replica_event, first_replica_world, MayReplicas}
@@ -34,8 +34,7 @@ pub events_fit : EventsFit
 events_fit shape world (deliver from to mark) size sound may =
     λ content rest waits. message_fits shape size.counted world sound from to content rest waits (first_addressed shape world from to content rest sound waits)
 events_fit shape world (take_line number text said) size sound may = line_fits shape size.counted world sound number text said
-events_fit shape world quieten size sound may = tt
-events_fit shape world nothing size sound may = tt
+events_fit shape world other size sound may = tt
 
 event_stages : (shape : Shape) (world : ReplicaWorld) (event : QueueEvent) → IsClusterSize shape.nodes shape.spares → IsSoundWorld shape world → MayReplicas world event → AreAtStages shape (after_replica_event shape world event)
 unfolding after_replica_event
@@ -43,8 +42,7 @@ event_stages shape world (deliver from to mark) size sound (content, rest, waits
     subst (λ list. IsAtSome shape.nodes (after_first shape world from to mark list) s) (sym waits)
     (message_stages shape size.counted world sound from to content rest mark waits (first_addressed shape world from to content rest sound waits) s one most)
 event_stages shape world (take_line number text said) size sound may s one most = line_stages shape size.counted world sound number text said s one most
-event_stages shape world quieten size sound may s one most = sound.stages s one most
-event_stages shape world nothing size sound may s one most = sound.stages s one most
+event_stages shape world other size sound may s one most = sound.stages s one most
 
 event_many : (shape : Shape) (world : ReplicaWorld) (event : QueueEvent) → length world.front.sessions ≡ SESSIONS_MAX → MayReplicas world event → length (after_replica_event shape world event).front.sessions ≡ SESSIONS_MAX
 unfolding after_replica_event
@@ -52,8 +50,7 @@ event_many shape world (deliver from to mark) many (content, rest, waits) =
     subst (λ list. length (after_first shape world from to mark list).front.sessions ≡ SESSIONS_MAX) (sym waits)
     (message_many shape (record world { mail = with_way world.mail from to rest }) from to content mark ∙ many)
 event_many shape world (take_line number text said) many may = line_many shape world.front number text said ∙ many
-event_many shape world quieten many may = many
-event_many shape world nothing many may = many
+event_many shape world other many may = many
 
 pub events_keep_sound : EventsKeepSound
 events_keep_sound shape world event size sound may = record {

@@ -15,7 +15,7 @@ use Rattle.cl_log.specs.Open.{is_among, has_begun, has_prepared, stage_of}
 use Rattle.cl_lone.specs.Lone.{lone_step}
 use Rattle.cl_node.specs.Addressing.{home_in}
 use Rattle.cl_roster.specs.Roster.{IsClusterSize}
-use Rattle.cl_runs.specs.Queues.{QueueEvent, deliver, take_line, quieten, nothing}
+use Rattle.cl_runs.specs.Queues.{QueueEvent, deliver, take_line, quieten}
 use Rattle.cl_runs.specs.World.{Shape, EachMayHappen, with_firm}
 use Rattle.cl_steps.specs.declared.actors.TheConstants.{FRONT}
 use Rattle.cl_system.proofs.Places.{receiver_below}
@@ -127,7 +127,7 @@ module _ (shape : Shape) (size : IsClusterSize shape.nodes shape.spares) (world 
   event_turned (deliver from to mark) = first_turned from to mark (world.mail from to) refl
   event_turned (take_line number text said) = stays_turned _ refl refl
   event_turned quieten = stays_turned _ refl refl
-  event_turned nothing = stays_turned world refl refl
+  event_turned other = stays_turned world refl refl
 
 -- after it each log is tidy, under what is decided now
 tidy_after : (shape : Shape) (before after : ReplicaWorld) → CommitsWhole shape before → CommitsWhole shape after →

@@ -11,7 +11,7 @@ use Rattle.cl_log.specs.declared.records.LogRec.{LogRec}
 use Rattle.cl_log.specs.declared.records.LogRec.TheVariants as records
 use Rattle.cl_log.specs.Open.{is_among}
 use Rattle.cl_roster.specs.Roster.{IsClusterSize}
-use Rattle.cl_runs.specs.Queues.{QueueEvent, deliver, take_line, quieten, nothing}
+use Rattle.cl_runs.specs.Queues.{QueueEvent, deliver, take_line, quieten}
 use Rattle.cl_runs.specs.World.{Shape, EachMayHappen, with_firm}
 use Rattle.cl_steps.specs.declared.actors.TheConstants.{FRONT}
 use Rattle.cl_system.proofs.Places.{receiver_below}
@@ -149,7 +149,7 @@ module _ (shape : Shape) (size : IsClusterSize shape.nodes shape.spares) (pairs 
       queue_members from to mark (after_first shape pairs from to mark (pairs.mail from to)) (pairs.mail from to) refl now
   event_members (take_line number text said) now = record { held = are.held; beyond = are.beyond }
   event_members quieten now = record { held = are.held; beyond = are.beyond }
-  event_members nothing now = are
+  event_members other now = are
 
 -- ---- runs
 

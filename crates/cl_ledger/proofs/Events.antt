@@ -21,7 +21,7 @@ use Rattle.cl_order.proofs.LawLemmas.{new_ordered, steps_keep_order}
 use Rattle.cl_order.proofs.Readings.{spared_stay_whole}
 use Rattle.cl_part.proofs.Soundness.{new_is_sound}
 use Rattle.cl_roster.specs.Roster.{IsClusterSize}
-use Rattle.cl_runs.specs.Queues.{deliver, take_line, quieten, nothing}
+use Rattle.cl_runs.specs.Queues.{deliver, take_line, quieten}
 use Rattle.cl_runs.specs.World.{Shape}
 use Rattle.cl_steps.specs.declared.actors.TheConstants.{FRONT}
 use Rattle.cl_steps.specs.declared.steps.Outgoing.{Outgoing}
@@ -239,7 +239,7 @@ events_are_steps fit shape state ledger (happens quieten) size sound commits is 
     waiting = is.waiting;
   };
 }
-events_are_steps fit shape state ledger (happens nothing) size sound commits is may = record { enabled = tt; after = is }
+events_are_steps fit shape state ledger (happens other) size sound commits is may = record { enabled = tt; after = is }
 events_are_steps fit shape state ledger (reorder mail) size sound commits is may =
     let becomes = reorder_becomes shape size state ledger is mail may in
     record { enabled = becomes.enabled; after = becomes.after }

@@ -11,7 +11,7 @@ use Rattle.cl_part.specs.Calls.{ask_op, prepare, undo_one, after_undo}
 use Rattle.cl_part.specs.Laws.{steps_of}
 use Rattle.cl_part.specs.Sound.{IsSound}
 use Rattle.cl_part.specs.State.{State}
-use Rattle.cl_runs.specs.Queues.{QueueEvent, deliver, take_line, quieten, nothing}
+use Rattle.cl_runs.specs.Queues.{QueueEvent, deliver, take_line}
 use Rattle.cl_runs.specs.World.{Shape}
 use Rattle.cl_steps.specs.declared.actors.TheConstants.{FRONT}
 use Rattle.cl_types.specs.declared.operations.TxnId.{TxnId}
@@ -59,8 +59,7 @@ first_steps world to mark (content ∷ rest) = if to == FRONT then [] else messa
 unfoldable pub event_steps : ReplicaWorld → QueueEvent → List Step
 event_steps world (deliver from to mark) = first_steps world to mark (world.mail from to)
 event_steps world (take_line number text said) = []
-event_steps world quieten = []
-event_steps world nothing = []
+event_steps world other = []
 
 -- the steps that an event of the firm system is: a transaction joins the history once it is firm
 unfoldable pub firm_steps : FirmWorld → FirmEvent → List Step

@@ -11,8 +11,8 @@ use Rattle.cl_log.specs.Open.{is_among}
 use Rattle.cl_members.specs.Events.{firm_events_of}
 use Rattle.cl_members.specs.Members.{feeds_of, feeds_in}
 use Rattle.cl_pairs.specs.Pairs.{PairWorld, after_pair_event, first_pair_world}
-use Rattle.cl_runs.specs.Queues.{QueueEvent, deliver, take_line, quieten, nothing, event_on, queue_event_of, queue_events_from, queue_events_of}
-use Rattle.cl_runs.specs.World.{Shape, World, Happening, handle, tick, feed, quiet, Run, packet_at, first_world, after_event}
+use Rattle.cl_runs.specs.Queues.{QueueEvent, deliver, take_line, nothing, event_on, queue_event_of, queue_events_from, queue_events_of}
+use Rattle.cl_runs.specs.World.{Shape, World, Happening, handle, feed, Run, packet_at, first_world, after_event}
 use Rattle.cl_seen.specs.Seen.{joins_of, seen_delivery, seen_event, seen_from, seen_events}
 use Rattle.cl_shown.specs.Laws.{lines_of_firm}
 use Rattle.cl_system.specs.Firm.{FirmEvent, happens, join}
@@ -41,8 +41,7 @@ module _ (shape : Shape) where
   seen_feeds pairs (deliver from to mark) =
       delivery_feeds pairs (after_pair_event shape pairs (deliver from to mark)) from to mark (pairs.mail from to)
   seen_feeds pairs (take_line number text said) = refl
-  seen_feeds pairs quieten = refl
-  seen_feeds pairs nothing = refl
+  seen_feeds pairs other = refl
 
 module _ (world : World Core) where
   -- a packet feeds nothing
@@ -56,9 +55,8 @@ module _ (world : World Core) where
   happening_feeds : (happening : Happening) (mark : Bool) → lines_of_firm (happens (queue_event_of world happening mark)) ≡ feeds_of happening
   unfolding queue_event_of
   happening_feeds (handle actor id) mark = packet_feeds actor mark (packet_at world id)
-  happening_feeds (tick actor) mark = refl
   happening_feeds (feed number text said) mark = refl
-  happening_feeds quiet mark = refl
+  happening_feeds other mark = refl
 
 -- from any world on, a run feeds the lines of its events
 run_feeds : (shape : Shape) (run : Run) (world : World Core) (pairs : PairWorld) →

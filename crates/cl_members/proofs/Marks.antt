@@ -27,7 +27,7 @@ use Rattle.cl_runs.proofs.Runs.{runs_go_on, accepted_is_head}
 use Rattle.cl_runs.specs.Laws.{IsHead}
 use Rattle.cl_runs.specs.Queues.{Tagged, contents_of, watched_after, queue_world_of}
 use Rattle.cl_runs.specs.Queues.{QueueEvent, deliver, take_line, quieten, nothing, event_on, queue_event_of, queue_events_of}
-use Rattle.cl_runs.specs.World.{Shape, Happening, handle, tick, feed, quiet, Run, packet_at, World}
+use Rattle.cl_runs.specs.World.{Shape, Happening, handle, Run, packet_at, World}
 use Rattle.cl_runs.specs.World.{first_world, after_event, IsEnabledWidely, MayHandle, IsWideRun}
 use Rattle.cl_seen.proofs.Lists.{outward_one}
 use Rattle.cl_seen.proofs.Runs.{holds_of_all}
@@ -169,7 +169,7 @@ event_outward shape pairs (take_line number text said) front from to mark back i
     let same : take_line number text said ≡ deliver from to mark = alone_is (take_line number text said) front (deliver from to mark) back is in absurd cc
 event_outward shape pairs quieten front from to mark back is =
     let same : quieten ≡ deliver from to mark = alone_is quieten front (deliver from to mark) back is in absurd cc
-event_outward shape pairs nothing front from to mark back is = absurd (joins_only [] front (deliver from to mark) back is)
+event_outward shape pairs other front from to mark back is = absurd (joins_only [] front (deliver from to mark) back is)
 
 -- ---- one event more
 
@@ -284,9 +284,7 @@ module _ (shape : Shape) (size : IsClusterSize shape.nodes shape.spares) where
     happening_handled : (happening : Happening) → event.0 ≡ happening → AreHandled (queue_event_of (world_of shape run) happening event.1)
     unfolding queue_event_of
     happening_handled (handle actor id) is = event_handled actor id is (packet_at (world_of shape run) id) refl
-    happening_handled (tick actor) is = λ from to mark delivers. absurd cc
-    happening_handled (feed number text said) is = λ from to mark delivers. absurd cc
-    happening_handled quiet is = λ from to mark delivers. absurd cc
+    happening_handled other is = λ from to mark delivers. absurd cc
 
     -- what comes in this event
     marked_here : (from to : ℕ) (mark : Bool) (front : List FirmEvent) →

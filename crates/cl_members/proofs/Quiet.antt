@@ -1,10 +1,10 @@
 -- At a quiet moment of a run nothing is on its way.
-use Rattle.std.proofs.Common.{◌≡◌, ℕ, ◌<◌, nat_lt, cond, Bool, true, false, ◌⊎◌, inl, inr, List, [], ◌∷◌, ◌++◌, All, Option, Some, None, refl, sym, ap}
+use Rattle.std.proofs.Common.{◌≡◌, ℕ, ◌<◌, nat_lt, cond, Bool, true, false, inl, inr, List, [], ◌∷◌, ◌++◌, All, Option, Some, None, refl, sym, ap}
 use Rattle.std.proofs.Common.{◌∙◌, subst, arith}
-use Rattle.std.proofs.lemmas.Bool.{cond_both, ltb-true}
+use Rattle.std.proofs.lemmas.Bool.{cond_both, ltb-true, cases_eq}
 use Rattle.std.proofs.lemmas.List.Elements.{All-head}
 use Rattle.cl_actor.specs.Acting.{is_now}
-use Rattle.cl_cluster.proofs.Members.{standby-below}
+use Rattle.cl_cluster.proofs.Nodes.{pair_receiver_below}
 use Rattle.cl_cluster.specs.Alike.{pair_events_of, pairs_after}
 use Rattle.cl_endpoint.specs.Endpoint.{received}
 use Rattle.cl_log.specs.declared.records.LogRec.{LogRec}
@@ -19,10 +19,12 @@ use Rattle.cl_node.specs.Members.{standby_node}
 use Rattle.cl_paired.specs.Paired.{untold}
 use Rattle.cl_pairs.proofs.Streams.{pairs_are_one_log, all_is_acknowledged}
 use Rattle.cl_pairs.specs.Pairs.{PairWorld, after_pair_event}
-use Rattle.cl_roster.specs.Roster.{IsClusterSize}
+use Rattle.cl_roster.specs.declared.entry.RosterEntry.{RosterEntry}
+use Rattle.cl_roster.specs.Roster.{IsClusterSize, has_stopped}
+use Rattle.cl_runs.proofs.NeverStops.{nobody_stops}
 use Rattle.cl_runs.proofs.Runs.{runs_go_on, runs_are_wide, quiet_empties_queues}
 use Rattle.cl_runs.specs.Queues.{contents_of, QueueEvent, deliver, take_line, quieten, nothing, event_on, queue_event_of, queue_events_of, sent_to}
-use Rattle.cl_runs.specs.World.{Shape, World, Happening, handle, tick, feed, quiet, Run, packet_at, first_world, after_event, EachMayHappen}
+use Rattle.cl_runs.specs.World.{Shape, World, IsLiving, Happening, handle, quiet, Run, packet_at, first_world, after_event, EachMayHappen}
 use Rattle.cl_runs.specs.World.{IsEnabled, IsQuiet, IsTimely, IsRun, IsWideRun}
 use Rattle.cl_seen.proofs.EveryRun.{pair_messages_are_addressed}
 use Rattle.cl_seen.proofs.Quiet.{nothing_to_tell}
@@ -34,26 +36,8 @@ use Rattle.cl_steps.specs.declared.steps.Outgoing.{Outgoing}
 use Rattle.cl_system.specs.Firm.{FirmWorld, FirmEvent, join, after_firm_event, first_firm_world, firm_world_after, IsQuietly, AreQuiet}
 use Rattle.cl_system.specs.Replicas.{own_primary}
 use Rattle.cl_system.specs.System.{Core}
-use Rattle.cl_types.proofs.PlacementLaws.{node_count-some}
-use Rattle.cl_types.specs.Placement.{IsNodeCount}
 use Rattle.cl_types.specs.declared.operations.TxnId.{TxnId}
-use Rattle.cl_wire.specs.Message.{Content, Command, Outcome, Ask, Answer, Prepare, Vote, Finish, Log, LogAck, Message}
-
--- the giver of a message is the front or a node
-giver_lives : (nodes : ℕ) → IsNodeCount nodes → (from to : ℕ) (content : Content) → IsPairAddressed nodes from to content → (from ≡ FRONT) ⊎ (from < nodes)
-giver_lives nodes counted from to (Log v number entry) is = inr (let giver = is.giver in let node = is.node in omega (arith, node, giver))
-giver_lives nodes counted from to (LogAck v number) is = inr (let giver = is.giver in let node = standby-below nodes v counted in omega (arith, node, giver))
-giver_lives nodes counted from to (Command v txn number what) is = inl is.giver
-giver_lives nodes counted from to (Outcome txn number outcome) is =
-    inr (let giver = is.giver in let some = node_count-some nodes counted in omega (arith, some, giver))
-giver_lives nodes counted from to (Ask v txn number table key op) is =
-    inr (let giver = is.0.giver in let some = node_count-some nodes counted in omega (arith, some, giver))
-giver_lives nodes counted from to (Answer v txn number answer) is = inr (let giver = is.giver in let node = is.node in omega (arith, node, giver))
-giver_lives nodes counted from to (Prepare v txn) is = inr (let giver = is.giver in let some = node_count-some nodes counted in omega (arith, some, giver))
-giver_lives nodes counted from to (Vote v txn) is = inr (let giver = is.giver in let node = is.node in omega (arith, node, giver))
-giver_lives nodes counted from to (Finish v txn commit) is =
-    inr (let giver = is.giver in let some = node_count-some nodes counted in omega (arith, some, giver))
-giver_lives nodes counted from to content is = absurd is
+use Rattle.cl_wire.specs.Message.{Content, Log, LogAck, Message}
 
 -- the law of pairs
 pub quiet_empties_mail : QuietEmptiesMail
@@ -63,17 +47,27 @@ quiet_empties_mail shape run size is quiets from to = by ((pairs_after shape run
     wide : IsWideRun (cores shape) shape run
     wide = runs_are_wide (cores shape) shape run is
 
-    -- nothing of a living giver is on its way
-    lives_empty : (from ≡ FRONT) ⊎ (from < shape.nodes) → (pairs_after shape run).mail from to ≡ []
+    -- nobody has stopped
+    unstopped : has_stopped (world_of shape run).roster to ≡ false
+    unstopped = ap (λ (roster : List RosterEntry). has_stopped roster to) (nobody_stops (cores shape) shape run size wide (λ known state n. refl)).roster
+
+    -- nothing is on its way to who lives
+    lives_empty : IsLiving shape (world_of shape run).roster to → (pairs_after shape run).mail from to ≡ []
     lives_empty lives =
         sym ((pair_run shape run size wide).alike.mail from to)
-        ∙ ap contents_of (quiet_empties_queues (cores shape) shape run size wide quiets from to
-        (elim lives [ inl front ↦ inl front | inr node ↦ inr (omega (arith, node)) ]))
+        ∙ ap contents_of (quiet_empties_queues (cores shape) shape run size wide quiets from to lives)
+
+    -- the receiver of a message is the front or a node
+    receiver_lives : (content : Content) → IsPairAddressed shape.nodes from to content → IsLiving shape (world_of shape run).roster to
+    receiver_lives content addressed = elim (cases_eq to FRONT) [
+      | inl front ↦ inl front
+      | inr apart ↦ inr (let node = pair_receiver_below shape.nodes from to content size.counted apart addressed in (omega (arith, node), unstopped))
+    ]
 
     by : (queue : List Content) → (pairs_after shape run).mail from to ≡ queue → (pairs_after shape run).mail from to ≡ []
     by [] waits = waits
     by (content ∷ rest) waits =
-        lives_empty (giver_lives shape.nodes size.counted from to content
+        lives_empty (receiver_lives content
         (All-head (IsPairAddressed shape.nodes from to) content rest
         (subst (All (IsPairAddressed shape.nodes from to)) waits
         (pair_messages_are_addressed shape (pair_events_of shape run) size (pair_run shape run size wide).is from to))))
@@ -102,7 +96,7 @@ module _ (shape : Shape) where
       delivery_quiet pairs (after_pair_event shape pairs (deliver from to mark)) from to mark (pairs.mail from to) state
   event_quiet pairs (take_line number text said) state empty = (tt, tt)
   event_quiet pairs quieten state empty = (empty refl, tt)
-  event_quiet pairs nothing state empty = tt
+  event_quiet pairs other state empty = tt
 
   module _ (size : IsClusterSize shape.nodes shape.spares) where
     -- at a quiet moment nobody has anything to tell
@@ -155,9 +149,8 @@ module _ (shape : Shape) where
           (firm_world_after shape (firm_events_of shape run)).world.mail from to ≡ []
       unfolding queue_event_of
       quietly (handle actor id) is = packet_stays actor (packet_at (world_of shape run) id)
-      quietly (tick actor) is = λ same. absurd cc
-      quietly (feed number text said) is = λ same. absurd cc
       quietly quiet is = λ same. nothing_waits run both.0 (subst (IsTimely (cores shape) shape (world_of shape run)) is both.1.timely)
+      quietly other is = λ same. absurd cc
 
       -- so the quiet moments of the run with this event are quiet
       quiet_more : AreQuiet shape (firm_events_of shape run) → AreQuiet shape (firm_events_of shape (run ++ event ∷ []))

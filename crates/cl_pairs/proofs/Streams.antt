@@ -10,7 +10,7 @@ use Rattle.cl_front.specs.Front.{FrontState, delivered_front, fed_front}
 use Rattle.cl_log.specs.declared.records.LogRec.{LogRec}
 use Rattle.cl_log.specs.LogEntry.{LogEntry}
 use Rattle.cl_part.specs.State.{State}
-use Rattle.cl_runs.specs.Queues.{QueueEvent, deliver, take_line, quieten, nothing}
+use Rattle.cl_runs.specs.Queues.{QueueEvent, deliver, take_line}
 use Rattle.cl_runs.specs.World.{Shape}
 use Rattle.cl_steps.specs.declared.actors.TheConstants.{FRONT}
 use Rattle.cl_steps.specs.declared.steps.Outgoing.{Outgoing}
@@ -160,8 +160,7 @@ module _ (shape : Shape) (counted : IsNodeCount shape.nodes) where
   event_kept pairs (take_line number text said) are =
       front_kept (record pairs { lines = pairs.lines + 1 }) are (fed_front (nothing_noted shape) pairs.front number text said)
       (line_sends shape pairs.front number text said)
-  event_kept pairs quieten are = are
-  event_kept pairs nothing are = are
+  event_kept pairs other are = are
 
   -- events, first to last
   events_kept : (events : List QueueEvent) (pairs : PairWorld) → HasStreams shape pairs → HasStreams shape (fold (after_pair_event shape) pairs events)
@@ -259,8 +258,7 @@ module _ (shape : Shape) (counted : IsNodeCount shape.nodes) where
     event_heard pairs (take_line number text said) are hears =
         heard_mailed shape.nodes pairs.primaries pairs.standbys pairs.mail v FRONT
         (fed_front (nothing_noted shape) pairs.front number text said).step.sends hears
-    event_heard pairs quieten are hears = hears
-    event_heard pairs nothing are hears = hears
+    event_heard pairs other are hears = hears
 
     -- events, first to last
     events_heard : (events : List QueueEvent) (pairs : PairWorld) → HasStreams shape pairs → Hears pairs → Hears (fold (after_pair_event shape) pairs events)

@@ -4,7 +4,7 @@ use Rattle.cl_actor.specs.Core.{CoreStep}
 use Rattle.cl_front.specs.Front.{FrontState, new_front, delivered_front, fed_front, quiet_front, DeliveryFits, LineFits}
 use Rattle.cl_node.specs.Members.{standby_node}
 use Rattle.cl_node.specs.Node.{first_member}
-use Rattle.cl_runs.specs.Queues.{QueueEvent, deliver, take_line, quieten, nothing}
+use Rattle.cl_runs.specs.Queues.{QueueEvent, deliver, note_next, take_line, quieten}
 use Rattle.cl_runs.specs.World.{Shape, EachMayHappen, with_at, with_firm}
 use Rattle.cl_steps.specs.declared.actors.TheConstants.{FRONT}
 use Rattle.cl_system.specs.Replicas.{Mail, nothing_noted, own_primary, with_mail, with_way}
@@ -73,7 +73,7 @@ after_pair_event shape pairs (deliver from to mark) = after_first shape pairs fr
 after_pair_event shape pairs (take_line number text said) =
     front_acts (record pairs { lines = pairs.lines + 1 }) (fed_front (nothing_noted shape) pairs.front number text said)
 after_pair_event shape pairs quieten = record pairs { front = quiet_front pairs.front }
-after_pair_event shape pairs nothing = pairs
+after_pair_event shape pairs other = pairs
 
 -- the system before any event
 abbrev pub first_pair_world : Shape → PairWorld
@@ -90,12 +90,12 @@ first_pair_world shape = record {
 unfoldable pub pair_world_after : Shape → List QueueEvent → PairWorld
 pair_world_after shape events = fold (after_pair_event shape) (first_pair_world shape) events
 
--- an event may happen: there is a message, or the line is the next one
+-- an event may happen: there is a message, or the line is the next one; nobody stops, so there is no entry to note
 abbrev pub MayPairs : PairWorld → QueueEvent → Type 0
 MayPairs pairs (deliver from to mark) = (content : Content) × (rest : List Content) × (pairs.mail from to ≡ content ∷ rest)
 MayPairs pairs (take_line number text said) = (number ≡ pairs.lines + 1) × (said ≡ [])
-MayPairs pairs quieten = Unit {0}
-MayPairs pairs nothing = Unit {0}
+MayPairs pairs (note_next actor) = ⊥
+MayPairs pairs other = Unit {0}
 
 -- each event may happen in its turn
 unfoldable pub IsPairRun : Shape → List QueueEvent → Type 0
@@ -117,5 +117,4 @@ PairMessageFits shape pairs from to content = FitsActor (to == FRONT) where
 abbrev pub PairEventFits : Shape → PairWorld → QueueEvent → Type 0
 PairEventFits shape pairs (deliver from to mark) = (content : Content) (rest : List Content) → pairs.mail from to ≡ content ∷ rest → PairMessageFits shape pairs from to content
 PairEventFits shape pairs (take_line number text said) = LineFits (nothing_noted shape) pairs.front number text said
-PairEventFits shape pairs quieten = Unit {0}
-PairEventFits shape pairs nothing = Unit {0}
+PairEventFits shape pairs other = Unit {0}

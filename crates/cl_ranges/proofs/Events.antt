@@ -17,7 +17,7 @@ use Rattle.cl_ranges.proofs.Replicas.{IsStepInRange, first_replica_range, replic
 use Rattle.cl_ranges.specs.Laws.{IsUnspentMessage, IsUnspentEvent}
 use Rattle.cl_ranges.specs.Ranges.{IsReplicaInRange, IsSessionInRange, IsWorldInRange}
 use Rattle.cl_roster.specs.Roster.{IsClusterSize}
-use Rattle.cl_runs.specs.Queues.{sent_to, QueueEvent, deliver, take_line, quieten, nothing}
+use Rattle.cl_runs.specs.Queues.{sent_to, QueueEvent, deliver, take_line, quieten}
 use Rattle.cl_runs.specs.World.{Shape}
 use Rattle.cl_steps.specs.declared.actors.TheConstants.{FRONT}
 use Rattle.cl_steps.specs.declared.steps.Outgoing.{Outgoing}
@@ -169,7 +169,7 @@ event_keeps shape state (take_line number text said) size sound are unspent numb
     front_range (record world { lines = world.lines + 1 }) (fed_front (nothing_noted shape) world.front number text said)
     (record { sessions = are.sessions; replicas = are.replicas; mail = are.mail }) (line_range shape size.counted world.front number text said are.sessions unspent) numbered
 event_keeps shape state quieten size sound are unspent numbered = record { sessions = are.sessions; replicas = are.replicas; mail = are.mail }
-event_keeps shape state nothing size sound are unspent numbered = are
+event_keeps shape state other size sound are unspent numbered = are
 
 -- an event of the system that may happen, and is not spent, keeps all in range
 pub events_keep_range : (shape : Shape) (state : FirmWorld) (event : QueueEvent) → IsClusterSize shape.nodes shape.spares → IsSoundWorld shape state.world →

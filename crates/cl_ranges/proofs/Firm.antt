@@ -27,7 +27,7 @@ use Rattle.cl_ranges.specs.Laws.{FewBecomeFirm}
 use Rattle.cl_ranges.specs.declared.limits.TheConstants.{FIRM_MAX}
 use Rattle.cl_repair.specs.declared.mode.Mode.TheVariants.{Pair}
 use Rattle.cl_runs.proofs.Runs.{watching_leaves_world}
-use Rattle.cl_runs.specs.Queues.{QueueEvent, deliver, take_line, quieten, nothing, core_step, Watched, watched_after, queue_event_of}
+use Rattle.cl_runs.specs.Queues.{QueueEvent, deliver, take_line, core_step, Watched, watched_after, queue_event_of}
 use Rattle.cl_runs.specs.World.{Shape, World, IsEnabledWidely}
 use Rattle.cl_serial.specs.Transcript.{fed}
 use Rattle.cl_steps.specs.Steps.{Step}
@@ -174,8 +174,7 @@ module _ (shape : Shape) where
     event_few : (event : QueueEvent) → IsFew (event_step shape pairs event)
     event_few (deliver from to mark) = first_few from to mark (pairs.mail from to)
     event_few (take_line number text said) = line_few pairs.front number text said
-    event_few quieten = omega arith
-    event_few nothing = omega arith
+    event_few other = omega arith
 
 -- the law of runs
 pub few_become_firm : FewBecomeFirm

@@ -7,7 +7,7 @@ use Rattle.cl_front.specs.Front.{delivered_front}
 use Rattle.cl_node.specs.Members.{standby_node}
 use Rattle.cl_pairs.specs.Pairs.{PairWorld, front_acts, logged_at, replica_acts, after_message, after_first, after_pair_event}
 use Rattle.cl_ranges.proofs.Steps.{node_step, message_step, first_step, event_step}
-use Rattle.cl_runs.specs.Queues.{sent_to, QueueEvent, deliver, take_line, quieten, nothing}
+use Rattle.cl_runs.specs.Queues.{sent_to, QueueEvent, deliver, take_line}
 use Rattle.cl_runs.specs.World.{Shape}
 use Rattle.cl_seen.proofs.Lists.{All-second}
 use Rattle.cl_seen.specs.Ways.{IsPairAddressed}
@@ -19,8 +19,7 @@ use Rattle.cl_wire.specs.Message.{Content, Log}
 abbrev pub IsActing : QueueEvent → ℕ → Type 0
 IsActing (deliver from to mark) me = to ≡ me
 IsActing (take_line number text said) me = FRONT ≡ me
-IsActing quieten me = Unit {0}
-IsActing nothing me = Unit {0}
+IsActing other me = Unit {0}
 
 -- the standby that takes a log record is at its receiver
 abbrev IsReceived : ℕ → ℕ → Option ℕ → Type 0
@@ -85,5 +84,4 @@ module _ (P : Content → Type 0) where
       subst (λ n. All P ((after_pair_event shape pairs (take_line number text said)).mail n to) → All P
       (sent_to to (event_step shape pairs (take_line number text said)).sends)) acts
       (All-second P (pairs.mail FRONT to) _) all
-  sends_behind shape pairs quieten me to addressed acts all = none_to to
-  sends_behind shape pairs nothing me to addressed acts all = none_to to
+  sends_behind shape pairs other me to addressed acts all = none_to to

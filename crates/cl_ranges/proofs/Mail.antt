@@ -15,7 +15,7 @@ use Rattle.cl_pairs.specs.Pairs.{PairWorld, front_acts, logged_at, replica_acts,
 use Rattle.cl_pairs.specs.Streams.{is_log_of, log_of}
 use Rattle.cl_ranges.specs.Ranges.{IsWorldInRange}
 use Rattle.cl_roster.specs.Roster.{IsClusterSize}
-use Rattle.cl_runs.specs.Queues.{QueueEvent, deliver, take_line, quieten, nothing}
+use Rattle.cl_runs.specs.Queues.{QueueEvent, deliver, take_line}
 use Rattle.cl_runs.specs.World.{Shape}
 use Rattle.cl_seen.proofs.Lists.{All-first, All-second}
 use Rattle.cl_seen.specs.Laws.{IsSeen}
@@ -133,8 +133,7 @@ module _ (shape : Shape) (pairs : PairWorld) (streams : HasStreams shape pairs) 
   event_acks are (take_line number text said) =
       mailed pairs.mail FRONT (fed_front (nothing_noted shape) pairs.front number text said).step.sends acks
       (front_sends shape.nodes (fed_front (nothing_noted shape) pairs.front number text said).step.sends (line_sends shape pairs.front number text said))
-  event_acks are quieten = acks
-  event_acks are nothing = acks
+  event_acks are other = acks
 
 -- ---- all messages
 

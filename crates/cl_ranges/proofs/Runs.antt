@@ -1,5 +1,5 @@
 -- Each packet of a run of which no step is spent is in range.
-use Rattle.std.proofs.Common.{◌≡◌, ℕ, ◌-◌, ◌≤◌, Bool, false, eqb, inl, inr, List, [], ◌∷◌, ◌++◌, length, fold, All, refl, sym, ap, ◌∙◌, subst, arith}
+use Rattle.std.proofs.Common.{◌≡◌, ℕ, ◌+◌, ◌-◌, ◌≤◌, Bool, false, eqb, inl, inr, List, [], ◌∷◌, ◌++◌, length, fold, All, refl, sym, ap, ◌∙◌, subst, arith}
 use Rattle.std.proofs.lemmas.Bool.{cond_both, eqb-true}
 use Rattle.std.proofs.lemmas.List.{length-map}
 use Rattle.std.proofs.lemmas.List.Elements.{All-nil, All-append, All-map, All-weaker}
@@ -22,7 +22,7 @@ use Rattle.cl_ranges.specs.Spent.{is_spent, IsUnspentRun}
 use Rattle.cl_roster.specs.Roster.{IsClusterSize}
 use Rattle.cl_runs.proofs.Runs.{runs_go_on, watching_leaves_world}
 use Rattle.cl_runs.specs.Laws.{IsBare, CarriesGiven, IsFaithful}
-use Rattle.cl_runs.specs.Queues.{Tagged, Queues, tagged, sent_to, with_sends, actor_of, core_step, Watched, after_watched, watched_after, queue_events_from, queue_events_of, QueueEvent, queue_event_of}
+use Rattle.cl_runs.specs.Queues.{Tagged, Queues, tagged, sent_to, with_sends, actor_of, core_step, noted_more, Watched, after_watched, watched_after, queue_events_from, queue_events_of, QueueEvent, queue_event_of}
 use Rattle.cl_runs.specs.World.{Cores, Shape, World, endpoints_of, Happening, Run, first_world, after_event, EachMayHappen, world_after, IsEnabledWidely, IsWideRun}
 use Rattle.cl_seen.proofs.EveryRun.{pair_runs_are_seen}
 use Rattle.cl_seen.proofs.Runs.{each_append, each_parts, holds_of_all, pairs_push, seen_push}
@@ -191,7 +191,7 @@ module _ (shape : Shape) (size : IsClusterSize shape.nodes shape.spares) where
         run_longer : IsRunInRange shape longer
         run_longer =
             let me : ℕ = actor_of happening in
-            let tag : ℕ = set_number (watched.world.actors me).endpoint in
+            let tag : ℕ = set_number (watched.world.actors me).endpoint + noted_more (system shape.nodes) watched.world happening mark in
             let sends : List Outgoing = (core_step (system shape.nodes) watched.world happening mark).step.sends in
             let same : sends ≡ (event_step shape pairs event).sends
             = ap (λ (step : Step). step.sends) (same_step shape size watched pairs together happening mark so.0) in
@@ -278,7 +278,7 @@ packet_range shape run pairs m together is faithful =
       | inr carries ↦ carried_range shape.nodes watched.given m (is.given m.from m.to) (is.few m.from m.to) carries
     ] in
     let none : set_number (watched.world.actors m.from).endpoint ≡ 0 = ap length (together.alike.noted m.from) in
-    let accepted = (together.links.linked m.to m.from).pair.order.accepted in
+    let accepted = (together.links.linked.linked m.to m.from).order.accepted in
     let same = length-map (watched.given m.to m.from) (λ (message : Tagged). message.content) in
     let few = is.few m.to m.from in
     record {
@@ -298,7 +298,7 @@ packets_are_in_range shape run size wide unspent =
     let together : AreTogether shape watched (pairs_after shape run) = together_after shape run size wide in
     subst (λ (world : World Core). All IsInRange world.packets) (watching_leaves_world (system shape.nodes) shape run)
     (All-weaker (IsFaithful (endpoints_of watched.world) watched.given) IsInRange
-    (λ m faithful. packet_range shape run (pairs_after shape run) m together is faithful) watched.world.packets together.links.faithful)
+    (λ m faithful. packet_range shape run (pairs_after shape run) m together is faithful) watched.world.packets together.links.linked.faithful)
 
 -- the law of what was given
 pub given_is_in_range : GivenIsInRange

@@ -12,12 +12,13 @@ use Rattle.cl_endpoint.specs.Endpoint.{link_to, received}
 use Rattle.cl_front.specs.Front.{delivered_front, fed_front}
 use Rattle.cl_lines.specs.declared.out.Out.{Out}
 use Rattle.cl_pairs.specs.Pairs.{PairWorld, logged_at}
+use Rattle.cl_roster.specs.declared.entry.RosterEntry.{RosterEntry}
 use Rattle.cl_roster.specs.Roster.{IsClusterSize}
 use Rattle.cl_runs.proofs.Events.{IsSound, emitted_faithful}
-use Rattle.cl_runs.proofs.QueueEvents.{AcceptsHead, accepts_head}
+use Rattle.cl_runs.proofs.QueueEvents.{AcceptsHead, accepts_head, queue_whole}
 use Rattle.cl_runs.specs.Laws.{IsFaithful}
-use Rattle.cl_runs.specs.Queues.{step_on, core_step, contents_of, Watched, QueueWorld, queue_world_of, QueueEvent, deliver, take_line, quieten, nothing, event_on, queue_event_of}
-use Rattle.cl_runs.specs.World.{Shape, World, endpoints_of, Happening, handle, tick, feed, quiet, IsEnabledWidely}
+use Rattle.cl_runs.specs.Queues.{step_on, step_at, next_entry, core_step, contents_of, Watched, QueueWorld, queue_world_of, QueueEvent, deliver, take_line, event_on, queue_event_of}
+use Rattle.cl_runs.specs.World.{Shape, World, endpoints_of, Happening, handle, note, feed, IsEnabledWidely}
 use Rattle.cl_seen.specs.Ways.{IsPairAddressed}
 use Rattle.cl_steps.specs.Steps.{Step, nothing_done}
 use Rattle.cl_steps.specs.declared.actors.TheConstants.{FRONT}
@@ -47,8 +48,7 @@ first_step shape pairs from to mark (content ∷ rest) = message_step shape pair
 abbrev pub event_step : Shape → PairWorld → QueueEvent → Step
 event_step shape pairs (deliver from to mark) = first_step shape pairs from to mark (pairs.mail from to)
 event_step shape pairs (take_line number text said) = (fed_front (nothing_noted shape) pairs.front number text said).step
-event_step shape pairs quieten = nothing_done
-event_step shape pairs nothing = nothing_done
+event_step shape pairs other = nothing_done
 
 -- what was noted, by its parts
 same_noted : (a b : Noted) → a.nodes ≡ b.nodes → a.spares ≡ b.spares → a.entries ≡ b.entries → a ≡ b
@@ -81,7 +81,7 @@ module _ (shape : Shape) (size : IsClusterSize shape.nodes shape.spares) (watche
   -- nothing of the roster was noted
   pub noted_is : (actor : ℕ) → nothing_noted shape ≡ noted_in (watched.world.actors actor).endpoint
   noted_is actor =
-      let shaped = is.links.shaped actor in
+      let shaped = is.links.linked.shaped actor in
       same_noted (nothing_noted shape) (noted_in (world.actors actor).endpoint) (sym shaped.nodes) (sym shaped.spares) (sym (is.alike.noted actor))
 
   -- the front takes the message
@@ -110,9 +110,9 @@ module _ (shape : Shape) (size : IsClusterSize shape.nodes shape.spares) (watche
       received (watched.world.actors me).endpoint m.from m.seq ≡ Now →
       (rest : List Content) × (pairs.mail m.from me ≡ m.content ∷ rest)
   head_waits me m faithful here now =
-      let accepts : AcceptsHead watched.given me (world.actors me).endpoint m = accepts_head shape world watched.given is.links me m faithful here now in
+      let accepts : AcceptsHead watched.given me (world.actors me).endpoint m = accepts_head shape world watched.given is.links.linked me m faithful here now in
       let rest : List Content = contents_of (drop ((link_to (world.actors me).endpoint m.from).accepted + 1) (watched.given m.from me)) in
-      (rest, sym (is.alike.mail m.from me) ∙ (ap contents_of accepts.waits ∙ ap (λ content. content ∷ rest) accepts.content))
+      (rest, sym (is.alike.mail m.from me) ∙ (ap contents_of (queue_whole _ accepts.heard ∙ accepts.waits) ∙ ap (λ content. content ∷ rest) accepts.content))
 
   -- what is accepted now is the first message on its way
   head_gives : (me : ℕ) (m : Message) (mark : Bool) → IsFaithful (endpoints_of watched.world) watched.given m → m.to ≡ me →
@@ -152,6 +152,11 @@ module _ (shape : Shape) (size : IsClusterSize shape.nodes shape.spares) (watche
       subst₂ (λ noted core. (fed_core FRONT noted core number text said).step ≡ (fed_front (nothing_noted shape) pairs.front number text said).step)
       (noted_is FRONT) (sym is.alike.front) refl
 
+  -- an entry that is noted makes nobody give anything
+  pub noting_gives : (actor : ℕ) (next : Option RosterEntry) → (step_at (system shape.nodes) (watched.world.actors actor) actor next).step ≡ nothing_done
+  noting_gives actor None = refl
+  noting_gives actor (Some entry) = refl
+
   -- what an event gives is what the front, a primary or a standby gives
   pub same_step : (happening : Happening) (mark : Bool) → IsEnabledWidely shape watched.world happening →
       (core_step (system shape.nodes) watched.world happening mark).step ≡ event_step shape pairs (queue_event_of watched.world happening mark)
@@ -159,7 +164,7 @@ module _ (shape : Shape) (size : IsClusterSize shape.nodes shape.spares) (watche
   same_step (handle actor id) mark may =
       subst (λ (found : Option Message). (step_on (system shape.nodes) (world.actors actor) actor mark found).step ≡ event_step shape pairs
       (event_on world actor mark found)) (sym may.emitted)
-      (packet_gives actor may.packet mark (emitted_faithful shape world watched.given id may.packet is.links may.emitted) may.addressed)
-  same_step (tick actor) mark may = refl
+      (packet_gives actor may.packet mark (emitted_faithful shape world watched.given id may.packet is.links.linked may.emitted) may.addressed)
+  same_step (note actor) mark may = noting_gives actor (next_entry world actor)
   same_step (feed number text said) mark may = line_gives number text said
-  same_step quiet mark may = refl
+  same_step other mark may = refl

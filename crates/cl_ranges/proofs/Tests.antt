@@ -15,14 +15,15 @@ use Rattle.cl_node.specs.Node.{NodeState, replica_for, is_replica_spent, is_slot
 use Rattle.cl_pairs.specs.Pairs.{PairWorld}
 use Rattle.cl_ranges.proofs.Counts.{stays_few}
 use Rattle.cl_ranges.proofs.Given.{IsActing}
-use Rattle.cl_ranges.proofs.Steps.{now_from, AreTogether, noted_is, head_waits}
+use Rattle.cl_ranges.proofs.Steps.{now_from, AreTogether, noted_is, head_waits, noting_gives}
 use Rattle.cl_ranges.proofs.Unspent.{outward_addressed, IsUnspentAmongPairs, IsUnspentPairEvent}
 use Rattle.cl_ranges.specs.Spent.{is_core_delivery_spent, is_packet_spent, is_core_line_spent, is_spent}
 use Rattle.cl_roster.specs.Roster.{IsClusterSize}
-use Rattle.cl_runs.proofs.Events.{emitted_faithful, linked_received}
+use Rattle.cl_runs.proofs.Events.{linked_here, emitted_faithful, faithful_here}
+use Rattle.cl_runs.proofs.Linked.{linked_taken}
 use Rattle.cl_runs.specs.Laws.{IsFaithful}
-use Rattle.cl_runs.specs.Queues.{contents_of, tagged, sent_to, actor_of, step_on, core_step, queue_world_of, Watched, deliver, nothing, event_on, queue_event_of}
-use Rattle.cl_runs.specs.World.{Shape, World, endpoints_of, Happening, handle, tick, feed, quiet, packet_at, IsEnabledWidely}
+use Rattle.cl_runs.specs.Queues.{contents_of, tagged, sent_to, actor_of, step_on, next_entry, core_step, queue_world_of, Watched, deliver, nothing, event_on, queue_event_of}
+use Rattle.cl_runs.specs.World.{Shape, World, endpoints_of, Happening, handle, note, tick, feed, packet_at, IsEnabledWidely}
 use Rattle.cl_seen.specs.Seen.{is_internal}
 use Rattle.cl_seen.specs.Ways.{IsPairAddressed}
 use Rattle.cl_steps.specs.declared.actors.TheConstants.{FRONT}
@@ -124,12 +125,11 @@ module _ (shape : Shape) (size : IsClusterSize shape.nodes shape.spares) (watche
   happening_unspent (handle actor id) mark may unspent =
       subst (λ (found : Option Message). is_packet_spent world actor found mark ≡ false → IsUnspentPairEvent shape pairs (event_on world actor mark found))
       (sym may.emitted)
-      (packet_unspent actor may.packet mark (emitted_faithful shape world watched.given id may.packet is.links may.emitted) may.addressed) unspent
-  happening_unspent (tick actor) mark may unspent = tt
+      (packet_unspent actor may.packet mark (emitted_faithful shape world watched.given id may.packet is.links.linked may.emitted) may.addressed) unspent
   happening_unspent (feed number text said) mark may unspent =
       subst₂ (λ noted core. is_core_line_spent noted core number text said ≡ false) (sym (noted_is shape size watched pairs is FRONT)) is.alike.front
       (or_parts _ _ unspent).0
-  happening_unspent quiet mark may unspent = tt
+  happening_unspent other mark may unspent = tt
 
   -- ---- the numbers of links
 
@@ -146,7 +146,7 @@ module _ (shape : Shape) (size : IsClusterSize shape.nodes shape.spares) (watche
     -- who gives nothing stays within them
     nothing_few : (me : ℕ) → StaysFew me []
     nothing_few me to tag =
-        stays_few (world.actors me).endpoint to tag (watched.given me to) [] (is.links.linked me to).pair.order.numbered (few me to)
+        stays_few (world.actors me).endpoint to tag (watched.given me to) [] (is.links.linked.linked me to).order.numbered (few me to)
         (none_spent (world.actors me).endpoint)
 
     -- a packet that is accepted now
@@ -157,7 +157,8 @@ module _ (shape : Shape) (size : IsClusterSize shape.nodes shape.spares) (watche
         let heard : EndpointState = after_receive (world.actors me).endpoint m.from m.seq m.ack in
         let numbered : last_number (link_to heard to) ≡ length (contents_of (watched.given me to))
         = subst (λ (end : EndpointState). last_number (link_to end to) ≡ length (contents_of (watched.given me to))) (cond-true _ _ _ (eq-eqb me me refl))
-        ((linked_received shape world watched.given me m is.links faithful here).linked me to).pair.order.numbered in
+        ((linked_taken (endpoints_of world) me (world.actors me).endpoint (linked_here shape world watched.given me is.links.linked) m here
+        (faithful_here shape world watched.given me m faithful)).linked me to).order.numbered in
         stays_few heard to tag (watched.given me to) (delivery (delivered_core me) (world.actors me) m mark).step.sends numbered (few me to)
         (tests me m mark faithful here unspent now).1
 
@@ -179,12 +180,14 @@ module _ (shape : Shape) (size : IsClusterSize shape.nodes shape.spares) (watche
     event_few (handle actor id) mark may unspent =
         subst (λ (found : Option Message). is_packet_spent world actor found mark ≡ false →
         StaysFew actor (step_on (system shape.nodes) (world.actors actor) actor mark found).step.sends) (sym may.emitted)
-        (packet_few actor may.packet mark (emitted_faithful shape world watched.given id may.packet is.links may.emitted) may.addressed) unspent
+        (packet_few actor may.packet mark (emitted_faithful shape world watched.given id may.packet is.links.linked may.emitted) may.addressed) unspent
+    event_few (note actor) mark may unspent =
+        subst (λ step. StaysFew actor step.sends) (sym (noting_gives shape size watched pairs is actor (next_entry world actor))) (nothing_few actor)
     event_few (tick actor) mark may unspent = nothing_few actor
     event_few (feed number text said) mark may unspent =
-        λ to tag. stays_few (world.actors FRONT).endpoint to tag (watched.given FRONT to) _ (is.links.linked FRONT to).pair.order.numbered (few FRONT to)
+        λ to tag. stays_few (world.actors FRONT).endpoint to tag (watched.given FRONT to) _ (is.links.linked.linked FRONT to).order.numbered (few FRONT to)
         (or_parts _ _ unspent).1
-    event_few quiet mark may unspent = nothing_few FRONT
+    event_few other mark may unspent = nothing_few FRONT
 
   -- who acts
   pub event_acting : (happening : Happening) (mark : Bool) → IsActing (queue_event_of watched.world happening mark) (actor_of happening)
@@ -196,6 +199,5 @@ module _ (shape : Shape) (size : IsClusterSize shape.nodes shape.spares) (watche
       by (Some m) =
           cond_both (is_now (received (world.actors actor).endpoint m.from m.seq)) (deliver m.from actor mark) nothing (λ event. IsActing event actor)
           (λ now. refl) (λ later. tt)
-  event_acting (tick actor) mark = tt
   event_acting (feed number text said) mark = refl
-  event_acting quiet mark = tt
+  event_acting other mark = tt

@@ -20,7 +20,7 @@ use Rattle.cl_paired.specs.Paired.{at_once, IsPaired}
 use Rattle.cl_pairs.specs.Pairs.{PairWorld, FitsReplica, after_pair_event, pair_world_after, IsPairRun, PairMessageFits}
 use Rattle.cl_ranges.specs.Laws.{IsUnspentMessage, IsUnspentEvent}
 use Rattle.cl_roster.specs.Roster.{IsClusterSize}
-use Rattle.cl_runs.specs.Queues.{QueueEvent, deliver, take_line, quieten, nothing}
+use Rattle.cl_runs.specs.Queues.{QueueEvent, deliver, take_line, quieten}
 use Rattle.cl_runs.specs.World.{Shape, EachMayHappen}
 use Rattle.cl_seen.proofs.EveryRun.{pair_runs_are_seen, pair_inputs_fit, pair_messages_are_addressed}
 use Rattle.cl_seen.proofs.Events.{outward_no_log}
@@ -94,8 +94,7 @@ IsUnspentPairEvent shape pairs (deliver from to mark) =
     (content : Content) (rest : List Content) → pairs.mail from to ≡ content ∷ rest → is_internal content ≡ false →
     IsUnspentAmongPairs shape pairs from to content
 IsUnspentPairEvent shape pairs (take_line number text said) = at_front.is_line_spent (nothing_noted shape) pairs.front number text said ≡ false
-IsUnspentPairEvent shape pairs quieten = Unit {0}
-IsUnspentPairEvent shape pairs nothing = Unit {0}
+IsUnspentPairEvent shape pairs other = Unit {0}
 
 -- what becomes firm needs no number
 joins_unspent : (shape : Shape) (firm : FirmWorld) (history : List TxnId) (entry : LogRec) →
@@ -198,4 +197,4 @@ module _ (shape : Shape) (size : IsClusterSize shape.nodes shape.spares) (events
   event_unspent (take_line number text said) unspent =
       (subst (λ (front : FrontState). at_front.is_line_spent (nothing_noted shape) front number text said ≡ false) is_seen.front unspent, tt)
   event_unspent quieten unspent = (tt, tt)
-  event_unspent nothing unspent = tt
+  event_unspent other unspent = tt

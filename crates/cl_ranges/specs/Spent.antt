@@ -5,7 +5,7 @@ use Rattle.cl_actor.specs.Core.{Noted}
 use Rattle.cl_front.specs.Front as at_front
 use Rattle.cl_lines.specs.declared.out.Out.{Out}
 use Rattle.cl_node.specs.Node as at_node
-use Rattle.cl_runs.specs.World.{Shape, World, Happening, handle, tick, feed, quiet, packet_at, Run, first_world, after_event, EachMayHappen}
+use Rattle.cl_runs.specs.World.{Shape, World, Happening, handle, feed, packet_at, Run, first_world, after_event, EachMayHappen}
 use Rattle.cl_steps.specs.declared.actors.TheConstants.{FRONT}
 use Rattle.cl_system.specs.System.{Core, front, node, delivered_core, fed_core, system}
 use Rattle.cl_wire.specs.Message.{Content, Message}
@@ -28,9 +28,8 @@ is_packet_spent world actor (Some m) mark = is_handling_spent (delivered_core ac
 -- whether the step of an event with this mark needs a number above its limit
 unfoldable pub is_spent : World Core → Happening → Bool → Bool
 is_spent world (handle actor id) mark = is_packet_spent world actor (packet_at world id) mark
-is_spent world (tick actor) mark = false
 is_spent world (feed number text said) mark = is_feeding_spent (fed_core FRONT) is_core_line_spent (world.actors FRONT) number text said
-is_spent world quiet mark = false
+is_spent world other mark = false
 
 -- no step of the run is spent in its turn, with the mark that it has
 unfoldable pub IsUnspentRun : Shape → Run → Type 0

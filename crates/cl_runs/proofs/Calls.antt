@@ -1,16 +1,26 @@
 -- What each call of an endpoint makes of its links.
-use Rattle.std.proofs.Common.{◌≡◌, ℕ, ◌<◌, ◌≤◌, cond, eqb, List, [], ◌∷◌, length, map, get_or, refl, ap, sym, ◌∙◌, subst, subst₂, Option, inl, inr, arith}
+use Rattle.std.proofs.Common.{◌≡◌, ℕ, ◌<◌, ◌≤◌, cond, eqb, List, [], ◌∷◌, ◌++◌, length, map, get_or, refl, ap, sym, ◌∙◌, subst, subst₂, Option, inl, inr, arith}
 use Rattle.std.specs.List.{fold}
-use Rattle.std.proofs.lemmas.Bool.{eqb-true, eqb-false, cond_both, cases_lt}
+use Rattle.std.proofs.lemmas.Bool.{eqb-true, eqb-false, eq-eqb, ne_eqb, cond_both, cases_lt}
 use Rattle.std.proofs.lemmas.Grind.{get_or-set_at}
 use Rattle.std.proofs.lemmas.List.{get_or-set_other, get_or-map, get_or_past, set_past, length-set, length-map}
-use Rattle.cl_link.specs.LinkState.{LinkState, no_message, last_number, unacknowledged, after_sent, after_again}
+use Rattle.cl_link.specs.LinkState.{LinkState, no_message, last_number, unacknowledged, after_sent, after_again, after_drop_all}
 use Rattle.cl_link.proofs.LinkStates.{released-after_sent, accepted-after_sent, unacknowledged-after_sent, last_number-after_sent, released-after_again, accepted-after_again, unacknowledged-after_again, last_number-after_again}
+use Rattle.cl_roster.specs.declared.entry.RosterEntry.{RosterEntry}
+use Rattle.cl_roster.specs.declared.entry.RosterEntry.TheVariants.{Stopped, Repaired}
+use Rattle.cl_roster.specs.Roster.{is_stop_of}
 use Rattle.cl_wire.specs.Message.{Content, Message}
-use Rattle.cl_endpoint.specs.Endpoint.{EndpointState, link_to, with_link, received, link_after, after_receive, after_tick}
+use Rattle.cl_endpoint.specs.Endpoint.{EndpointState, link_to, with_link, received, link_after, after_receive, after_tick, after_note}
 use Rattle.cl_endpoint.specs.Emission.{after_packet, emitted, after_emit}
 
--- another endpoint of the same actor, which knows the same of the cluster and has as many links
+-- another endpoint of the same actor, in a cluster of the same size, with as many links
+pub record HasSamePlace (before after : EndpointState) : Type 0 where
+  pub me : after.me ≡ before.me
+  pub nodes : after.nodes ≡ before.nodes
+  pub spares : after.spares ≡ before.spares
+  pub links : length after.links ≡ length before.links
+
+-- one which has also noted the same of the roster
 pub record HasSameFrame (before after : EndpointState) : Type 0 where
   pub me : after.me ≡ before.me
   pub nodes : after.nodes ≡ before.nodes
@@ -134,3 +144,34 @@ frame-after_emit e owed = frame-after_packets (emitted e owed) e
 pub alike-after_emit : (e : EndpointState) (owed : Option ℕ) (peer : ℕ) → IsAlike (link_to e peer) (link_to (after_emit e owed) peer)
 unfolding after_emit
 alike-after_emit e owed peer = alike-after_packets (emitted e owed) e peer
+
+-- an entry of the roster is noted
+
+pub noted-after_note : (e : EndpointState) (entry : RosterEntry) → (after_note e entry).noted ≡ e.noted ++ entry ∷ []
+unfolding after_note
+noted-after_note e (Stopped n) = refl
+noted-after_note e (Repaired v n) = refl
+
+pub place-after_note : (e : EndpointState) (entry : RosterEntry) → HasSamePlace e (after_note e entry)
+unfolding after_note
+place-after_note e (Stopped n) = record { me = refl; nodes = refl; spares = refl; links = length-set e.links n (after_drop_all (link_to e n)) }
+place-after_note e (Repaired v n) = record { me = refl; nodes = refl; spares = refl; links = refl }
+
+-- the link to a node that has stopped keeps nothing any more
+pub link_to-after_note : (e : EndpointState) (entry : RosterEntry) (peer : ℕ) → link_to (after_note e entry) peer
+    ≡ cond (is_stop_of peer entry) (after_drop_all (link_to e peer)) (link_to e peer)
+unfolding after_note after_drop_all
+link_to-after_note e (Repaired v n) peer = refl
+link_to-after_note e (Stopped n) peer = elim (cases_lt n (length e.links)) [
+  | inl within ↦ link_to-with_link e n (after_drop_all (link_to e n)) peer within
+      ∙ cond_both (eqb peer n) (after_drop_all (link_to e n)) (link_to e peer)
+      (λ one. one ≡ cond (eqb n peer) (after_drop_all (link_to e peer)) (link_to e peer))
+      (λ here. let same : peer ≡ n = eqb-true peer n here in
+      rw (eq-eqb n peer (sym same)) (ap (λ at. after_drop_all (link_to e at)) (sym same)))
+      (λ elsewhere. rw (ne_eqb n peer (λ same. eqb-false peer n elsewhere (sym same))) refl)
+  | inr past ↦ link_to-past e n (after_drop_all (link_to e n)) peer past
+      ∙ cond_both (eqb n peer) (after_drop_all (link_to e peer)) (link_to e peer) (λ one. link_to e peer ≡ one)
+      (λ here. let none : link_to e peer ≡ no_message = get_or_past e.links peer no_message (omega (arith, eqb-true n peer here)) in
+      subst (λ link. link ≡ after_drop_all link) (sym none) refl)
+      (λ elsewhere. refl)
+]

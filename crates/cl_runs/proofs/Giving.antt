@@ -4,9 +4,9 @@ use Rattle.std.specs.List.{fold}
 use Rattle.std.proofs.lemmas.Bool.{ltb-true, ltb-false, cond_both}
 use Rattle.std.proofs.lemmas.List.{get_or_past, append-nil}
 use Rattle.cl_link.specs.LinkState.{LinkState, no_message, after_send}
-use Rattle.cl_link.specs.LinkPair.{LinkPair}
-use Rattle.cl_link.proofs.LinkStates.{accepted-after_send}
-use Rattle.cl_link.proofs.LinkPairs.{sender_send}
+use Rattle.cl_link.specs.LinkPair.{LinkOrder}
+use Rattle.cl_link.proofs.LinkOrders.{order_send}
+use Rattle.cl_link.proofs.LinkStates.{accepted-after_send, released-after_send}
 use Rattle.cl_steps.specs.declared.steps.Outgoing.{Outgoing}
 use Rattle.cl_wire.specs.Message.{Content}
 use Rattle.cl_endpoint.specs.declared.limits.TheConstants.{ACTORS}
@@ -41,9 +41,14 @@ pub accepted-after_sends : (contents : List Content) (s : LinkState Content) →
 accepted-after_sends [] s = refl
 accepted-after_sends (content ∷ contents) s = accepted-after_sends contents (after_send s content) ∙ accepted-after_send s content
 
+pub released-after_sends : (contents : List Content) (s : LinkState Content) → (fold after_send s contents).released ≡ s.released
+released-after_sends [] s = refl
+released-after_sends (content ∷ contents) s = released-after_sends contents (after_send s content) ∙ released-after_send s content
+
 -- the sender is given messages
-pub pair_sends : (contents given : List Content) (sender receiver : LinkState Content) → LinkPair given sender receiver [] [] → LinkPair (given ++ contents) (fold after_send sender contents) receiver [] []
-pair_sends [] given sender receiver pair = subst (λ all. LinkPair all sender receiver [] []) (sym (append-nil given)) pair
-pair_sends (content ∷ contents) given sender receiver pair =
-    subst (λ all. LinkPair all (fold after_send (after_send sender content) contents) receiver [] []) (append_assoc given (content ∷ []) contents)
-    (pair_sends contents (given ++ content ∷ []) (after_send sender content) receiver (sender_send pair content))
+pub order_sends : (contents given : List Content) (sender receiver : LinkState Content) → LinkOrder given sender receiver [] →
+    LinkOrder (given ++ contents) (fold after_send sender contents) receiver []
+order_sends [] given sender receiver order = subst (λ all. LinkOrder all sender receiver []) (sym (append-nil given)) order
+order_sends (content ∷ contents) given sender receiver order =
+    subst (λ all. LinkOrder all (fold after_send (after_send sender content) contents) receiver []) (append_assoc given (content ∷ []) contents)
+    (order_sends contents (given ++ content ∷ []) (after_send sender content) receiver (order_send order content))

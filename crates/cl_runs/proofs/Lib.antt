@@ -3,10 +3,12 @@ pub mod Calls
 pub mod Giving
 pub mod Taking
 pub mod Linked
+pub mod Noting
 pub mod Counting
 pub mod Events
 pub mod QueueSteps
 pub mod QueueEvents
 pub mod Quiet
 pub mod Runs
+pub mod NeverStops
 pub mod Examples

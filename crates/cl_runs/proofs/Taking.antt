@@ -1,11 +1,11 @@
--- Taking a packet: both ends of a link stay a pair, be they the ends of two actors or of one.
+-- Taking a packet: both ends of a link agree as before, be they the ends of two actors or of one.
 use Rattle.std.proofs.Common.{◌≡◌, ℕ, ◌<◌, ◌≤◌, Bool, true, false, cond, ◌&&◌, eqb, List, [], length, Some, refl, sym, subst, subst₂, arith}
 use Rattle.std.proofs.lemmas.Bool.{cond_both}
 use Rattle.cl_roster.specs.Roster.{has_stopped}
 use Rattle.cl_link.specs.LinkState.{LinkState, taken_of}
-use Rattle.cl_link.specs.LinkPair.{IsGiven, LinkPair}
-use Rattle.cl_link.proofs.LinkOrders.{accepted-after_packet}
-use Rattle.cl_link.proofs.LinkPairs.{sender_heard, sender_accept, receiver_heard, receiver_accept}
+use Rattle.cl_link.specs.LinkPair.{IsGiven, LinkOrder, LinkAcks}
+use Rattle.cl_link.proofs.LinkOrders.{accepted-after_packet, order_heard, order_accept, order_accept_back, order_same_receiver}
+use Rattle.cl_link.proofs.LinkPairs.{acks_heard, acks_accept_back, acks_more}
 use Rattle.cl_link.proofs.LinkStates.{accepted-after_heard}
 use Rattle.cl_wire.specs.Message.{Content}
 use Rattle.cl_endpoint.specs.declared.received.Received.{Received}
@@ -14,9 +14,13 @@ use Rattle.cl_endpoint.specs.Endpoint.{EndpointState, link_to, received, receive
 use Rattle.cl_runs.specs.World.{with_at}
 use Rattle.cl_runs.proofs.Calls.{link_to-after_receive}
 
--- ends that nothing lies between
-abbrev pub ArePair : List Content → LinkState Content → LinkState Content → Type 0
-ArePair given sender receiver = LinkPair given sender receiver [] []
+-- the receiver accepts in order what was given, where nothing lies between
+abbrev pub AreInOrder : List Content → LinkState Content → LinkState Content → Type 0
+AreInOrder given sender receiver = LinkOrder given sender receiver []
+
+-- nothing counts as acknowledged that was not accepted
+abbrev pub AreAcked : LinkState Content → LinkState Content → Type 0
+AreAcked sender receiver = LinkAcks sender receiver []
 
 -- a packet is received as one that carries a message
 abbrev pub Carries : Received → Type 0
@@ -34,29 +38,51 @@ accepted-link_after Now s seq ack content = accepted-after_packet s (Some (seq, 
 accepted-link_after Old s seq ack content = accepted-after_packet s (Some (seq, content)) ack
 accepted-link_after Gap s seq ack content = accepted-after_packet s (Some (seq, content)) ack
 
-receiver_takes : {given : List Content} {sender receiver : LinkState Content} → ArePair given sender receiver → (kind : Received) (seq ack : ℕ) (content : Content) → (Carries kind → IsGiven given (Some (seq, content))) → ArePair given sender (link_after kind receiver seq ack)
-receiver_takes pair Dropped seq ack content is = pair
-receiver_takes pair Bare seq ack content is = receiver_heard pair ack
-receiver_takes pair Now seq ack content is = receiver_accept pair (seq, content) ack (is tt)
-receiver_takes pair Old seq ack content is = receiver_accept pair (seq, content) ack (is tt)
-receiver_takes pair Gap seq ack content is = receiver_accept pair (seq, content) ack (is tt)
+receiver_takes : {given : List Content} {sender receiver : LinkState Content} → AreInOrder given sender receiver →
+    (kind : Received) (seq ack : ℕ) (content : Content) →
+    (Carries kind → IsGiven given (Some (seq, content))) → AreInOrder given sender (link_after kind receiver seq ack)
+receiver_takes order Dropped seq ack content is = order
+receiver_takes {receiver = receiver} order Bare seq ack content is = order_same_receiver order _ (accepted-after_heard receiver ack)
+receiver_takes order Now seq ack content is = order_accept order (seq, content) ack (is tt)
+receiver_takes order Old seq ack content is = order_accept order (seq, content) ack (is tt)
+receiver_takes order Gap seq ack content is = order_accept order (seq, content) ack (is tt)
 
-sender_takes : {given : List Content} {sender receiver : LinkState Content} → ArePair given sender receiver → (kind : Received) (seq ack : ℕ) → ack ≤ receiver.accepted → ArePair given (link_after kind sender seq ack) receiver
-sender_takes pair Dropped seq ack within = pair
-sender_takes pair Bare seq ack within = sender_heard pair ack within
-sender_takes pair Now seq ack within = sender_accept pair seq ack within
-sender_takes pair Old seq ack within = sender_accept pair seq ack within
-sender_takes pair Gap seq ack within = sender_accept pair seq ack within
+sender_takes : {given : List Content} {sender receiver : LinkState Content} → AreInOrder given sender receiver → (kind : Received) (seq ack : ℕ) →
+    AreInOrder given (link_after kind sender seq ack) receiver
+sender_takes order Dropped seq ack = order
+sender_takes order Bare seq ack = order_heard order ack
+sender_takes order Now seq ack = order_accept_back order seq ack
+sender_takes order Old seq ack = order_accept_back order seq ack
+sender_takes order Gap seq ack = order_accept_back order seq ack
+
+sender_hears : {sender receiver : LinkState Content} → AreAcked sender receiver → (kind : Received) (seq ack : ℕ) → ack ≤ receiver.accepted →
+    AreAcked (link_after kind sender seq ack) receiver
+sender_hears acks Dropped seq ack within = acks
+sender_hears acks Bare seq ack within = acks_heard acks ack within
+sender_hears acks Now seq ack within = acks_accept_back acks seq ack within
+sender_hears acks Old seq ack within = acks_accept_back acks seq ack within
+sender_hears acks Gap seq ack within = acks_accept_back acks seq ack within
 
 -- the packet comes to either end, or to both
-either_takes : {given : List Content} {sender receiver : LinkState Content} → ArePair given sender receiver → (kind : Received) (seq ack : ℕ) (content : Content) (sends receives : Bool) →
-    (sends ≡ true → ack ≤ receiver.accepted) → (receives ≡ true → Carries kind → IsGiven given (Some (seq, content))) →
-    ArePair given (cond sends (link_after kind sender seq ack) sender) (cond receives (link_after kind receiver seq ack) receiver)
-either_takes {receiver = receiver} pair kind seq ack content true true within is =
-    sender_takes (receiver_takes pair kind seq ack content (is refl)) kind seq ack (omega (arith, within refl, accepted-link_after kind receiver seq ack content))
-either_takes pair kind seq ack content true false within is = sender_takes pair kind seq ack (within refl)
-either_takes pair kind seq ack content false true within is = receiver_takes pair kind seq ack content (is refl)
-either_takes pair kind seq ack content false false within is = pair
+
+either_takes : {given : List Content} {sender receiver : LinkState Content} → AreInOrder given sender receiver →
+    (kind : Received) (seq ack : ℕ) (content : Content) (sends receives : Bool) →
+    (receives ≡ true → Carries kind → IsGiven given (Some (seq, content))) →
+    AreInOrder given (cond sends (link_after kind sender seq ack) sender) (cond receives (link_after kind receiver seq ack) receiver)
+either_takes order kind seq ack content true true is = sender_takes (receiver_takes order kind seq ack content (is refl)) kind seq ack
+either_takes order kind seq ack content true false is = sender_takes order kind seq ack
+either_takes order kind seq ack content false true is = receiver_takes order kind seq ack content (is refl)
+either_takes order kind seq ack content false false is = order
+
+either_hears : {sender receiver : LinkState Content} → AreAcked sender receiver →
+    (kind : Received) (seq ack : ℕ) (content : Content) (sends receives : Bool) → (sends ≡ true → ack ≤ receiver.accepted) →
+    AreAcked (cond sends (link_after kind sender seq ack) sender) (cond receives (link_after kind receiver seq ack) receiver)
+either_hears {receiver = receiver} acks kind seq ack content true true within =
+    let more : receiver.accepted ≤ (link_after kind receiver seq ack).accepted = accepted-link_after kind receiver seq ack content in
+    sender_hears (acks_more acks _ more) kind seq ack (omega (arith, within refl, more))
+either_hears acks kind seq ack content true false within = sender_hears acks kind seq ack (within refl)
+either_hears {receiver = receiver} acks kind seq ack content false true within = acks_more acks _ (accepted-link_after kind receiver seq ack content)
+either_hears acks kind seq ack content false false within = acks
 
 -- what carries a message has a number
 pub carries_number : (e : EndpointState) (from seq : ℕ) → seq ≡ 0 → Carries (received e from seq) → ⊥
@@ -76,13 +102,22 @@ module _ (ends : ℕ → EndpointState) (me : ℕ) (e : EndpointState) (from seq
       [ true ↦ link_to-after_receive e from seq ack peer within | false ↦ refl ]
 
   -- both ends of a link, once one actor has received a packet
-  pub pair_taken : (given : List Content) (content : Content) (actor peer : ℕ) → ArePair given (link_to (with_at ends me e actor) peer) (link_to (with_at ends me e peer) actor) →
-      ((eqb actor me && eqb peer from) ≡ true → ack ≤ (link_to (with_at ends me e peer) actor).accepted) →
+
+  pub order_taken : (given : List Content) (content : Content) (actor peer : ℕ) →
+      AreInOrder given (link_to (with_at ends me e actor) peer) (link_to (with_at ends me e peer) actor) →
       ((eqb peer me && eqb actor from) ≡ true → Carries (received e from seq) → IsGiven given (Some (seq, content))) →
-      ArePair given (link_to (with_at ends me (after_receive e from seq ack) actor) peer) (link_to (with_at ends me (after_receive e from seq ack) peer) actor)
-  pair_taken given content actor peer pair acknowledged is =
-      subst₂ (ArePair given) (sym (link_to-taken actor peer)) (sym (link_to-taken peer actor))
-      (either_takes pair (received e from seq) seq ack content (eqb actor me && eqb peer from) (eqb peer me && eqb actor from) acknowledged is)
+      AreInOrder given (link_to (with_at ends me (after_receive e from seq ack) actor) peer)
+      (link_to (with_at ends me (after_receive e from seq ack) peer) actor)
+  order_taken given content actor peer order is =
+      subst₂ (AreInOrder given) (sym (link_to-taken actor peer)) (sym (link_to-taken peer actor))
+      (either_takes order (received e from seq) seq ack content (eqb actor me && eqb peer from) (eqb peer me && eqb actor from) is)
+
+  pub acks_taken : (content : Content) (actor peer : ℕ) → AreAcked (link_to (with_at ends me e actor) peer) (link_to (with_at ends me e peer) actor) →
+      ((eqb actor me && eqb peer from) ≡ true → ack ≤ (link_to (with_at ends me e peer) actor).accepted) →
+      AreAcked (link_to (with_at ends me (after_receive e from seq ack) actor) peer) (link_to (with_at ends me (after_receive e from seq ack) peer) actor)
+  acks_taken content actor peer acks acknowledged =
+      subst₂ AreAcked (sym (link_to-taken actor peer)) (sym (link_to-taken peer actor))
+      (either_hears acks (received e from seq) seq ack content (eqb actor me && eqb peer from) (eqb peer me && eqb actor from) acknowledged)
 
   -- no actor takes back what it accepted
   pub accepted_taken : (content : Content) (actor peer : ℕ) → (link_to (with_at ends me e actor) peer).accepted ≤ (link_to (with_at ends me (after_receive e from seq ack) actor) peer).accepted

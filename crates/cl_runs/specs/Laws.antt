@@ -1,13 +1,15 @@
 -- What holds of every run: lossy links are queues.
-use Rattle.std.specs.Prelude.{◌≡◌, ◌⊎◌, ◌↔◌, ℕ, ◌-◌, ◌<◌, ◌≤◌, Bool, List, [], ◌∷◌, ◌++◌, length, All, Some, slice_get}
+use Rattle.std.specs.Prelude.{◌≡◌, ◌⊎◌, ◌↔◌, ℕ, ◌-◌, ◌<◌, ◌≤◌, Bool, false, List, [], ◌∷◌, ◌++◌, length, All, Some, None, slice_get}
 use Rattle.std.specs.List.{Contains}
-use Rattle.cl_roster.specs.Roster.{IsClusterSize}
+use Rattle.cl_roster.specs.Roster.{IsClusterSize, IsLawfulRoster, has_stopped}
 use Rattle.cl_wire.specs.Message.{Bare, Message}
-use Rattle.cl_link.specs.LinkPair.{LinkPair}
+use Rattle.cl_link.specs.LinkPair.{LinkOrder, LinkAcks}
+use Rattle.cl_link.specs.Network.{IsPrefixOf}
 use Rattle.cl_endpoint.specs.declared.limits.TheConstants.{ACTORS}
 use Rattle.cl_endpoint.specs.declared.received.Received.TheVariants.{Now}
 use Rattle.cl_endpoint.specs.Endpoint.{EndpointState, link_to, set_number, received}
-use Rattle.cl_runs.specs.World.{Cores, Shape, endpoints_of, IsLiving, Happening, Run, after, IsEnabledWidely, IsEnabled, IsQuiet, world_after, IsRun, IsWideRun}
+use Rattle.cl_actor.specs.Core.{Noted}
+use Rattle.cl_runs.specs.World.{Cores, Shape, World, endpoints_of, IsLiving, Happening, Run, after, IsEnabledWidely, IsEnabled, IsQuiet, world_after, IsRun, IsWideRun}
 use Rattle.cl_runs.specs.Queues.{Tagged, contents_of, Queues, after_watched, watched_after, queue_world_of, after_queue_event, IsQueueEnabled, queue_event_of, queue_events_of, queue_world_after, IsQueueRun}
 
 -- a packet without a message
@@ -44,8 +46,10 @@ pub record IsShaped (shape : Shape) (actor : ℕ) (end : EndpointState) : Type 0
 
 -- both ends of a link agree on what it was given
 pub record IsLinked (ends : ℕ → EndpointState) (given : Queues) (from to : ℕ) : Type 0 where
-  -- the invariant of a link, without packets
-  pub pair : LinkPair (contents_of (given from to)) (link_to (ends from) to) (link_to (ends to) from) [] []
+  -- the receiver accepts in order what was given
+  pub order : LinkOrder (contents_of (given from to)) (link_to (ends from) to) (link_to (ends to) from) []
+  -- nothing counts as acknowledged that was not accepted, until the sender has noted the receiver's stop
+  pub acks : has_stopped (ends from).noted to ≡ false → LinkAcks (link_to (ends from) to) (link_to (ends to) from) []
   -- whoever gave a message has noted so many entries of the roster
   pub tags : All (λ message. message.tag ≤ set_number (ends from)) (given from to)
 
@@ -100,10 +104,33 @@ ActorsAreLinked S = OfWideRuns S (λ cores shape run.
 abbrev pub EndpointsAreShaped : Type 0 → Type 0
 EndpointsAreShaped S = OfWideRuns S (λ cores shape run. (actor : ℕ) → IsShaped shape actor ((world_after cores shape run).actors actor).endpoint)
 
--- at a quiet moment nothing of a living actor is on its way
+-- at a quiet moment nothing is on its way to a living actor
 abbrev pub QuietEmptiesQueues : Type 0 → Type 0
 QuietEmptiesQueues S = OfWideRuns S (λ cores shape run.
-    IsQuiet cores shape (world_after cores shape run) → (from to : ℕ) → IsLiving shape from → (queue_world_of (watched_after cores shape run)).queues from to ≡ [])
+    IsQuiet cores shape (world_after cores shape run) → (from to : ℕ) → IsLiving shape (world_after cores shape run).roster to →
+    (queue_world_of (watched_after cores shape run)).queues from to ≡ [])
+
+-- the roster is lawful, and what each actor has noted is a beginning of it
+pub record IsNotedBy {S : Type 0} (shape : Shape) (world : World S) : Type 0 where
+  pub lawful : IsLawfulRoster shape.nodes shape.spares world.roster
+  pub noted : (actor : ℕ) → IsPrefixOf (world.actors actor).endpoint.noted world.roster
+
+-- so it is in each run
+abbrev pub RostersAreNoted : Type 0 → Type 0
+RostersAreNoted S = OfWideRuns S (λ cores shape run. IsNotedBy shape (world_after cores shape run))
+
+-- no stop is ever offered
+abbrev pub NeverStops : {S : Type 0} → Cores S → Type 0
+NeverStops {S} cores = (known : Noted) (state : S) (n : ℕ) → (cores.stopped known state n).step.entry ≡ None
+
+-- nobody has stopped, and nobody has noted anything
+pub record IsWithoutStops {S : Type 0} (world : World S) : Type 0 where
+  pub roster : world.roster ≡ []
+  pub noted : (actor : ℕ) → (world.actors actor).endpoint.noted ≡ []
+
+-- where no stop is ever offered, so it stays
+abbrev pub NobodyStops : Type 0 → Type 0
+NobodyStops S = OfWideRuns S (λ cores shape run. NeverStops cores → IsWithoutStops (world_after cores shape run))
 
 -- a run is a wide run
 abbrev pub RunsAreWide : Type 0 → Type 0

@@ -7,5 +7,6 @@
 mod laws;
 
 pub use laws::{
-    links_stay_pairs, packets_say_what_is_so, quiet_empties_queues, runs_are_queue_runs, runs_go_on,
+    links_stay_pairs, nobody_stops, packets_say_what_is_so, quiet_empties_queues,
+    rosters_are_noted, runs_are_queue_runs, runs_go_on,
 };

@@ -121,7 +121,7 @@ pub record IsNextLine (step quiet_now : Bool) (left : List (List ℕ)) (text : L
 abbrev pub IsPossible : Shape → Bool → Moment → List (Option Message) → List (List ℕ) → Candidate → Type 0
 IsPossible shape step moment slots left (packet id to) = IsIn moment 1 slots id to
 IsPossible shape step moment slots left (line text) = IsNextLine step (is_quiet shape moment) left text
-IsPossible shape step moment slots left (time actor) = IsLiving shape actor
+IsPossible shape step moment slots left (time actor) = IsLiving shape [] actor
 
 packet_possible : (shape : Shape) (step : Bool) (moment : Moment) (slots : List (Option Message)) (left : List (List ℕ)) (one : Candidate) →
     IsPacketIn moment 1 slots one → IsPossible shape step moment slots left one
@@ -146,7 +146,8 @@ line_possible shape step moment slots (text ∷ left) = line_where shape step mo
 times_possible : (shape : Shape) (step : Bool) (moment : Moment) (slots : List (Option Message)) (left : List (List ℕ)) →
     All (IsPossible shape step moment slots left) (waiting_actors shape moment)
 times_possible shape step moment slots left =
-    All-map (IsPossible shape step moment slots left) time _ (All-filter (λ actor. is_waiting (moment.actors actor).endpoint) (IsLiving shape) (living shape) (living_live shape))
+    All-map (IsPossible shape step moment slots left) time _ (All-filter (λ actor. is_waiting (moment.actors actor).endpoint) (IsLiving shape [])
+    (living shape) (living_live shape))
 
 either_possible : (P : Candidate → Type 0) (firsts others : List Candidate) (quiet_now : Bool) → All P firsts → All P others →
     All P (or_else firsts quiet_now others)
@@ -181,9 +182,10 @@ kept_message (None ∷ slots) (one ∷ emitted) zero m are at = absurd cc
 kept_message (Some here ∷ slots) (one ∷ emitted) zero m are at = let same : here ≡ one = are.0 in let is : here ≡ m = cc in ap (λ x. Some x) (sym same ∙ is)
 kept_message (slot ∷ slots) (one ∷ emitted) (suc index) m are at = kept_message slots emitted index m are.1 at
 
-living_from_test : (shape : Shape) (actor : ℕ) → is_living (living_in shape) actor ≡ true → IsLiving shape actor
+living_from_test : (shape : Shape) (actor : ℕ) → is_living (living_in shape) actor ≡ true → IsLiving shape [] actor
 living_from_test shape actor is =
-    elim (or_cases (eqb actor FRONT) (ltb actor (living_in shape)) is) [ inl here ↦ inl (eqb-true actor FRONT here) | inr within ↦ inr (ltb-true actor (living_in shape) within) ]
+    elim (or_cases (eqb actor FRONT) (ltb actor (living_in shape)) is)
+    [ inl here ↦ inl (eqb-true actor FRONT here) | inr within ↦ inr (ltb-true actor (living_in shape) within, refl) ]
 
 -- where a message is kept, its packet is
 some_packet : (slots : List (Option Packet)) (index : ℕ) → IsSome (get_or (messages_in slots) index None) → IsSome (get_or slots index None)
@@ -206,7 +208,8 @@ may_meet shape made run id to sound is =
       sound = sound;
       kept = some_packet made.mail (id - 1) some;
       may = record {
-        lives = living_from_test shape to (ap (λ a. is_living (living_in shape) a) (sym is.goes) ∙ living_to);
+        lives = subst (λ roster. IsLiving shape roster to) (sym sound.is.now.unstopped)
+            (living_from_test shape to (ap (λ a. is_living (living_in shape) a) (sym is.goes) ∙ living_to));
         numbered = let numbered = is.numbered in omega arith;
         packet = is.m;
         emitted = kept_message (messages_in made.mail) (moment_after shape run).packets (id - 1) is.m sound.is.now.mail at;

@@ -14,6 +14,7 @@ use Rattle.cl_world.specs.Running.{IsRunOn, MayRun}
 use Rattle.cl_world.specs.World.{moment_after}
 use Rattle.cl_world.specs.declared.world.World.{World}
 use Rattle.cl_world.proofs.Follows.{may_run_one}
+use Rattle.cl_world.proofs.Stops.{nobody_has_stopped}
 use Rattle.cl_schedule.specs.Course.{is_quiet, must_wait}
 use Rattle.cl_schedule.specs.Making.{AreMade, HasMade, IsSound, MayMeet, MayTell, quiet_where}
 use Rattle.cl_schedule.specs.Turns.{lines_in}
@@ -21,7 +22,7 @@ use Rattle.cl_schedule.proofs.Happens.{made_of, quieted, then_made}
 use Rattle.cl_schedule.proofs.Resting.{quiet_from_test}
 
 -- time may pass for an actor that lives
-pub tick_may : (shape : Shape) (made : World) (run : Run) (actor : ℕ) → IsSound shape made run → IsLiving shape actor →
+pub tick_may : (shape : Shape) (made : World) (run : Run) (actor : ℕ) → IsSound shape made run → IsLiving shape (moment_after shape run).roster actor →
     MayRun shape made run (events.Tick actor ∷ [])
 tick_may shape made run actor sound lives = may_run_one shape made run (events.Tick actor) sound.is sound.whole (record { widely = lives; timely = tt }) tt
 
@@ -32,7 +33,8 @@ handle_may shape made run id to may = may_run_one shape made run (events.Handle 
 -- a quiet moment may be noted
 pub quiet_may : (shape : Shape) (made : World) (run : Run) → IsSound shape made run → is_quiet shape (moment_after shape run) ≡ true →
     MayRun shape made run (events.Quiet ∷ [])
-quiet_may shape made run sound is = may_run_one shape made run events.Quiet sound.is sound.whole (record { widely = tt; timely = quiet_from_test shape (moment_after shape run) is }) tt
+quiet_may shape made run sound is = may_run_one shape made run events.Quiet sound.is sound.whole
+    (record { widely = tt; timely = quiet_from_test shape (moment_after shape run) (nobody_has_stopped shape made run sound.is) is }) tt
 
 -- where a line waits for one
 pub waited_may : (shape : Shape) (made : World) (run : Run) (waits : Bool) → MayTell shape made run waits → waits ≡ true → MayRun shape made run (events.Quiet ∷ [])

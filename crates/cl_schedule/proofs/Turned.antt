@@ -164,8 +164,9 @@ module _ (shape : Shape) (setting : Setting) (before : World) (progress : Progre
 
   module _ (actor : ℕ) (may : MayMake shape setting before progress lines course (Some (takes.Time actor))) where
     -- the actor lives
-    pub time_may : IsLiving shape actor
-    time_may = taken_possible shape setting course (time actor) may.takes
+    pub time_may : IsLiving shape (moment_after shape course.run).roster actor
+    time_may = subst (λ roster. IsLiving shape roster actor) (sym (sound_of shape before progress lines course may.at_course).is.now.unstopped)
+        (taken_possible shape setting course (time actor) may.takes)
 
     -- time passed
     pub time_turned : (fates : FatesOf) (after : World) → HasMade shape after course.run (tick actor ∷ []) (messages_in before.mail) →

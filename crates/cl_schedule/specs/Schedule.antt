@@ -1,6 +1,6 @@
 -- What a call of the schedule makes of a world.
 use Rattle.std.specs.Prelude.{◌≡◌, ℕ, ◌<◌, Bool, true, false, List, [], ◌∷◌, ◌++◌, Result, Ok, Err}
-use Rattle.cl_runs.specs.World.{Shape, Run, Happening, handle, tick, feed, quiet}
+use Rattle.cl_runs.specs.World.{Shape, Run, Happening, handle, note, tick, quiet}
 use Rattle.cl_ranges.specs.Spent.{is_spent}
 use Rattle.cl_steps.specs.declared.actors.TheConstants.{FRONT}
 use Rattle.cl_types.specs.declared.answers.Refused.{Refused}
@@ -39,9 +39,9 @@ IsFirstSpent shape run (happening ∷ rest) = is_spent (moment_after shape run) 
 -- the actor whose step this is
 abbrev pub actor_in : Happening → ℕ
 actor_in (handle actor id) = actor
+actor_in (note actor) = actor
 actor_in (tick actor) = actor
-actor_in (feed number text said) = FRONT
-actor_in quiet = FRONT
+actor_in other = FRONT
 
 -- each actor is there but that of the next of these
 abbrev pub AreOthersIn : Shape → World → List Happening → Type 0

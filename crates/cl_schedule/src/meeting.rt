@@ -6,6 +6,7 @@ ghost use Rattle.cl_schedule.specs.Making.{AreMade, IsSound, MayMeet, MayTell, q
 ghost use Rattle.cl_schedule.specs.Turns as turns;
 ghost use Rattle.cl_schedule.specs.Turns.{lines_in};
 ghost use Rattle.cl_world.specs.Mail.{forgotten, messages_in};
+ghost use Rattle.cl_world.specs.World.{moment_after};
 
 use crate::choosing::must_wait;
 use cl_io::Fate;
@@ -99,8 +100,9 @@ pub(crate) fn tell(world: &mut World, text: &[u8], step: bool) -> Result<(), Ref
 
 /// Time passes for an actor.
 pub(crate) fn pass(world: &mut World, actor: u32) -> Result<(), Refused>
-    requires { (shape : Shape) × (run : Run) × IsSound shape world.old run × IsLiving shape actor }
-    ensures { (shape : Shape) (run : Run) → IsSound shape world.old run → IsLiving shape actor
+    requires { (shape : Shape) × (run : Run) × IsSound shape world.old run
+        × IsLiving shape (moment_after shape run).roster actor }
+    ensures { (shape : Shape) (run : Run) → IsSound shape world.old run → IsLiving shape (moment_after shape run).roster actor
         → AreMade shape world.new run (tick actor ∷ []) (messages_in world.old.mail) result }
 {
     world.run_events(&[Event::Tick(actor)])

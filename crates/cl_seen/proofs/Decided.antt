@@ -15,7 +15,7 @@ use Rattle.cl_paired.proofs.Appending.{IsPlainGrown, grown-op, grown-finish}
 use Rattle.cl_paired.specs.Paired.{told_of, tolds_of}
 use Rattle.cl_part.specs.Calls.{after_op, after_prepare, after_decide}
 use Rattle.cl_part.specs.State.{State, after_record}
-use Rattle.cl_runs.specs.Queues.{QueueEvent, deliver, take_line, quieten, nothing}
+use Rattle.cl_runs.specs.Queues.{QueueEvent, deliver, take_line}
 use Rattle.cl_runs.specs.World.{Shape, with_one_firm, with_firm}
 use Rattle.cl_steps.specs.declared.actors.TheConstants.{FRONT}
 use Rattle.cl_system.specs.Firm.{FirmWorld, FirmEvent, happens, reorder, join, after_firm_event, first_firm_world, firm_world_after}
@@ -159,8 +159,7 @@ module _ (shape : Shape) where
   unfolding after_replica_event
   queue_decided world (deliver from to mark) are = first_decided world from to mark (world.mail from to) are
   queue_decided world (take_line number text said) are = are
-  queue_decided world quieten are = are
-  queue_decided world nothing are = are
+  queue_decided world other are = are
 
   -- an event of the firm system
   firm_decided : (state : FirmWorld) (event : FirmEvent) → HasDecided state.world → HasDecided (after_firm_event shape state event).world

@@ -20,7 +20,7 @@ use Rattle.cl_lone.specs.Lone.{lone_step}
 use Rattle.cl_paired.specs.Laws.{IsUnawaited, IsSeenAlone, IsNoAck, StepsAreSeenAlone, Tells, AcksTell}
 use Rattle.cl_paired.specs.Paired.{at_once, IsPaired}
 use Rattle.cl_roster.specs.Roster.{IsClusterSize}
-use Rattle.cl_runs.specs.Queues.{sent_to, QueueEvent, deliver, take_line, quieten, nothing}
+use Rattle.cl_runs.specs.Queues.{sent_to, QueueEvent, deliver, take_line, quieten}
 use Rattle.cl_runs.specs.World.{Shape, EachMayHappen, with_firm}
 use Rattle.cl_steps.specs.declared.actors.TheConstants.{FRONT}
 use Rattle.cl_steps.specs.declared.steps.Outgoing.{Outgoing}
@@ -141,10 +141,13 @@ module _ (shape : Shape) (size : IsClusterSize shape.nodes shape.spares) (keep :
     };
   }
 
-  -- nothing happens
-  pub nothing_seen : SeesEvent shape pairs firm nothing
-  unfolding pair.after_pair_event seen_event
-  nothing_seen = record { may = tt; after = sees }
+  -- an event that leaves all as it is
+  pub nothing_seen : (event : QueueEvent) → pair.after_pair_event shape pairs event ≡ pairs → seen_event shape pairs event ≡ [] →
+      SeesEvent shape pairs firm event
+  nothing_seen event stays none = record {
+    may = subst (λ list. EachMayHappen MayFirm (after_firm_event shape) list firm) (sym none) tt;
+    after = subst₂ (λ p list. Sees shape p (fold (after_firm_event shape) firm list)) (sym stays) (sym none) sees;
+  }
 
   -- ---- a message
 

@@ -13,7 +13,7 @@ use Rattle.cl_paired.proofs.Seeing.{at_once_seen}
 use Rattle.cl_paired.specs.Laws.{IsUnawaited, FitsBoth, StepsAreSeenAlone, AcksTell}
 use Rattle.cl_part.specs.Sound.{RecordsKeepReplica}
 use Rattle.cl_roster.specs.Roster.{IsClusterSize}
-use Rattle.cl_runs.specs.Queues.{QueueEvent, deliver, take_line, quieten, nothing}
+use Rattle.cl_runs.specs.Queues.{QueueEvent, deliver, take_line, quieten}
 use Rattle.cl_runs.specs.World.{Shape}
 use Rattle.cl_steps.specs.declared.actors.TheConstants.{FRONT}
 use Rattle.cl_system.proofs.Places.{receiver_below, fits_replica}
@@ -38,7 +38,7 @@ use Rattle.cl_pairs.proofs.Streams.{HasStreams}
 use Rattle.cl_pairs.proofs.Keeping.{IsBetween}
 use Rattle.cl_seen.proofs.Beside.{Sees, SeesEvent, IsInternalBelow, IsSafe}
 use Rattle.cl_pairs.specs.Pairs as pair
-use Rattle.cl_seen.specs.Seen.{is_internal, outward, to_tell}
+use Rattle.cl_seen.specs.Seen.{is_internal, outward, to_tell, seen_event}
 use Rattle.cl_pairs.specs.Streams.{IsAckBelow}
 
 -- what holds of both systems between two events
@@ -237,7 +237,7 @@ module _ (steps : StepsAreSeenAlone) (acks : AcksTell) (both : FitsBoth) (keep :
 
   -- what may happen is good
   pub event_good : (event : QueueEvent) → pair.MayPairs pairs event → IsGood shape pairs firm event
-  unfolding pair.after_pair_event
+  unfolding pair.after_pair_event seen_event
   event_good (deliver from to mark) may = (message_good from to mark may.0 may.1 may.2).1
   event_good (take_line number text said) may = record {
     seen = line_seen shape size keep pairs firm knows.sees knows.sound number text said may;
@@ -248,7 +248,7 @@ module _ (steps : StepsAreSeenAlone) (acks : AcksTell) (both : FitsBoth) (keep :
     seen = quiet_seen shape size keep pairs firm knows.sees knows.sound;
     safe = quiet_safe shape size.counted pairs knows.safe (quiet_front pairs.front);
   }
-  event_good nothing may = record { seen = nothing_seen shape size keep pairs firm knows.sees knows.sound; safe = knows.safe }
+  event_good other may = record { seen = nothing_seen shape size keep pairs firm knows.sees knows.sound other refl refl; safe = knows.safe }
 
   -- and fits
   pub event_fits : (event : QueueEvent) → pair.MayPairs pairs event → pair.PairEventFits shape pairs event
@@ -256,5 +256,4 @@ module _ (steps : StepsAreSeenAlone) (acks : AcksTell) (both : FitsBoth) (keep :
   event_fits (take_line number text said) may =
       subst (λ (front : FrontState). LineFits (nothing_noted shape) front number text said) (sym knows.sees.front)
       (events_fit shape firm.world (take_line number text said) size knows.sound (may.0 ∙ ap (λ n. n + 1) knows.sees.lines, may.1))
-  event_fits quieten may = tt
-  event_fits nothing may = tt
+  event_fits other may = tt

@@ -4,7 +4,7 @@ use Rattle.cl_log.specs.declared.records.LogRec.{LogRec}
 use Rattle.cl_log.specs.declared.records.LogRec.TheVariants.{Decide}
 use Rattle.cl_log.specs.Open.{is_among}
 use Rattle.cl_paired.specs.Paired.{untold}
-use Rattle.cl_runs.specs.Queues.{QueueEvent, deliver, take_line, quieten, nothing, sent_to}
+use Rattle.cl_runs.specs.Queues.{QueueEvent, deliver, take_line, quieten, sent_to}
 use Rattle.cl_runs.specs.World.{Shape}
 use Rattle.cl_system.specs.Firm.{FirmEvent, happens, reorder, join}
 use Rattle.cl_system.specs.Replicas.{Mail, own_primary}
@@ -47,7 +47,7 @@ unfoldable pub seen_event : Shape → PairWorld → QueueEvent → List FirmEven
 seen_event shape pairs (deliver from to mark) = seen_delivery shape pairs (after_pair_event shape pairs (deliver from to mark)) (deliver from to mark) (pairs.mail from to)
 seen_event shape pairs (take_line number text said) = happens (take_line number text said) ∷ []
 seen_event shape pairs quieten = happens quieten ∷ []
-seen_event shape pairs nothing = []
+seen_event shape pairs other = []
 
 -- what events are, from this moment on
 abbrev pub seen_from : Shape → List QueueEvent → PairWorld → List FirmEvent

@@ -16,7 +16,7 @@ use Rattle.cl_lines.specs.declared.out.Out.TheVariants.{BadLine}
 use Rattle.cl_log.specs.Open.{is_among as is_member, is_open}
 use Rattle.cl_lone.specs.Lone.{lone_step, committed, controlled, command_of}
 use Rattle.cl_node.specs.Addressing.{home_in}
-use Rattle.cl_runs.specs.Queues.{QueueEvent, deliver, take_line, quieten, nothing}
+use Rattle.cl_runs.specs.Queues.{QueueEvent, deliver, take_line, quieten}
 use Rattle.cl_runs.specs.World.{Shape, with_firm}
 use Rattle.cl_serial.specs.Transcript.{TranscriptEntry, fed, written}
 use Rattle.cl_steps.specs.declared.actors.TheConstants.{FRONT}
@@ -218,4 +218,4 @@ module _ (shape : Shape) (counted : IsNodeCount shape.nodes) (state : FirmWorld)
       tells_same (line_keeps shape world name.session (stage_of shape counted world sound name own) told (shown name own) (sym told.shows.left_is)
       (sym told.shows.told_is) number text said).told_is)
   event_change quieten may once = transcript_changes refl (longer _) (λ name own. tells_same (quiet_keeps name.session world.front (shown name own)).told_is)
-  event_change nothing may once = transcript_changes refl (omega arith) (λ name own. tells_same refl)
+  event_change other may once = transcript_changes refl (omega arith) (λ name own. tells_same refl)

@@ -24,7 +24,7 @@ use Rattle.cl_part.specs.Calls.{undo_one, after_undo}
 use Rattle.cl_part.specs.Laws.{steps_of, step_undoing}
 use Rattle.cl_part.specs.State.{State}
 use Rattle.cl_roster.specs.Roster.{IsClusterSize}
-use Rattle.cl_runs.specs.Queues.{QueueEvent, deliver, take_line, quieten, nothing}
+use Rattle.cl_runs.specs.Queues.{QueueEvent, deliver, take_line, quieten}
 use Rattle.cl_runs.specs.World.{Shape}
 use Rattle.cl_serial.specs.PlainMap.{Operation}
 use Rattle.cl_serial.specs.Transcript.{TranscriptEntry}
@@ -286,7 +286,7 @@ module _ (shape : Shape) (size : IsClusterSize shape.nodes shape.spares) (state 
       (line_keeps shape world name.session (at_stage name own) told shown (sym told.shows.left_is) (sym told.shows.told_is) number text said) served
   event_served quieten may = served_unsent world.front.transcript (quiet_front world.front).transcript [] name world.mail (ledger.done name)
       (quiet_keeps name.session world.front shown) served
-  event_served nothing may = served
+  event_served other may = served
 
 -- another order of what is on its way leaves what its messages say
 pub reorder_served : (world : ReplicaWorld) (mail : Mail) (done : TxnId → List Operation) (name : TxnId) → AreReordered world.mail mail →

@@ -21,7 +21,7 @@ use Rattle.cl_part.specs.Calls.{refusing, after_undo}
 use Rattle.cl_part.specs.Laws.{step_asked, step_undoing}
 use Rattle.cl_part.specs.State.{State}
 use Rattle.cl_roster.specs.Roster.{IsClusterSize}
-use Rattle.cl_runs.specs.Queues.{QueueEvent, deliver, take_line, quieten, nothing}
+use Rattle.cl_runs.specs.Queues.{QueueEvent, deliver, take_line}
 use Rattle.cl_runs.specs.World.{Shape}
 use Rattle.cl_steps.specs.declared.actors.TheConstants.{FRONT}
 use Rattle.cl_vnode.specs.Inputs.{has_decide}
@@ -304,8 +304,7 @@ module _ (shape : Shape) (size : IsClusterSize shape.nodes shape.spares) (world 
       (λ elsewhere. message_turn from to content rest mark here
       (receiver_below shape.nodes from to content size.counted (eqb-false to FRONT elsewhere) addressed) addressed))
   system_turn (take_line number text said) sound may = idle
-  system_turn quieten sound may = idle
-  system_turn nothing sound may = idle
+  system_turn other sound may = idle
 
 -- ---- an event of the firm system
 

@@ -20,7 +20,7 @@ use Rattle.cl_lines.specs.declared.out.Out.{Out}
 use Rattle.cl_lines.specs.declared.out.Out.TheVariants.{BadLine}
 use Rattle.cl_lines.proofs.Readings.{line_of-session, client_of-client, fault_of-line, fault_of-fault}
 use Rattle.cl_lone.specs.Lone.{lone_step}
-use Rattle.cl_runs.specs.Queues.{QueueEvent, deliver, take_line, quieten, nothing}
+use Rattle.cl_runs.specs.Queues.{QueueEvent, deliver, take_line, quieten}
 use Rattle.cl_runs.specs.World.{Shape}
 use Rattle.cl_serial.specs.Transactions.{Session}
 use Rattle.cl_serial.specs.Transcript.{TranscriptEntry, fed, written, quiet, fed_line, fed_lines}
@@ -95,7 +95,7 @@ module _ (shape : Shape) where
   event_feeds world (deliver from to mark) = first_feeds world from to mark (world.mail from to) ∙ sym (append-nil (fed_lines world.front.transcript))
   event_feeds world (take_line number text said) = line_feeds world.front number text (line_of text)
   event_feeds world quieten = gather-push fed_line world.front.transcript quiet
-  event_feeds world nothing = sym (append-nil (fed_lines world.front.transcript))
+  event_feeds world other = sym (append-nil (fed_lines world.front.transcript))
 
 -- ---- it stays well shown
 
@@ -205,4 +205,4 @@ module _ (shape : Shape) (counted : IsNodeCount shape.nodes) (world : ReplicaWor
       (message_well from to content rest mark waits (first_addressed shape world from to content rest sound waits))
   event_well (take_line number text said) may = line_well number text (line_of text) refl
   event_well quieten may = well_quiet world.front.transcript well
-  event_well nothing may = well
+  event_well other may = well

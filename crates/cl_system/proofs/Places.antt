@@ -10,7 +10,7 @@ use Rattle.cl_lone.specs.Laws.{FirstIsCalm, StepsStayCalm}
 use Rattle.cl_lone.specs.Lone.{lone_step}
 use Rattle.cl_node.specs.Addressing.{home_in}
 use Rattle.cl_roster.specs.Roster.{IsClusterSize}
-use Rattle.cl_runs.specs.Queues.{deliver, take_line, quieten, nothing}
+use Rattle.cl_runs.specs.Queues.{deliver, take_line, quieten}
 use Rattle.cl_runs.specs.World.{Shape}
 use Rattle.cl_steps.specs.declared.actors.TheConstants.{FRONT}
 use Rattle.cl_vnode.specs.Inputs.{Fits}
@@ -118,4 +118,4 @@ events_keep_places stay shape world (deliver from to mark) size are may fits = a
 events_keep_places stay shape world (take_line number text said) size are may fits =
     front_acts_in_place shape size world _ _ _ are (with_mail_addressed shape.nodes world.mail FRONT _ are.messages (line_sends shape world.front number text said))
 events_keep_places stay shape world quieten size are may fits = front_acts_in_place shape size world _ world.lines world.mail are are.messages
-events_keep_places stay shape world nothing size are may fits = are
+events_keep_places stay shape world other size are may fits = are

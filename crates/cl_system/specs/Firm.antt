@@ -2,7 +2,7 @@
 use Rattle.std.specs.Prelude.{◌≡◌, ℕ, true, false, List, [], ◌∷◌, ◌++◌, fold, IsPermutation}
 use Rattle.cl_log.specs.Open.{is_among}
 use Rattle.cl_roster.specs.Roster.{IsClusterSize}
-use Rattle.cl_runs.specs.Queues.{QueueEvent, deliver, take_line, quieten, nothing}
+use Rattle.cl_runs.specs.Queues.{QueueEvent, deliver, quieten}
 use Rattle.cl_runs.specs.World.{Shape, EachMayHappen}
 use Rattle.cl_types.specs.declared.answers.Outcome.TheVariants.{Committed}
 use Rattle.cl_types.specs.declared.operations.TxnId.{TxnId}
@@ -33,9 +33,7 @@ TellsFirm firm content = Unit {0}
 -- so does a message that comes to its receiver
 abbrev pub TellsOnceFirm : FirmWorld → QueueEvent → Type 0
 TellsOnceFirm state (deliver from to mark) = (content : Content) (rest : List Content) → state.world.mail from to ≡ content ∷ rest → TellsFirm state.firm content
-TellsOnceFirm state (take_line number text said) = Unit {0}
-TellsOnceFirm state quieten = Unit {0}
-TellsOnceFirm state nothing = Unit {0}
+TellsOnceFirm state other = Unit {0}
 
 -- the messages on their way are the same ones, in whatever order
 abbrev pub AreReordered : Mail → Mail → Type 0

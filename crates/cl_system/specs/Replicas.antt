@@ -3,7 +3,7 @@ use Rattle.std.specs.Prelude.{◌≡◌, ℕ, ◌+◌, ◌==◌, if◌then◌els
 use Rattle.cl_actor.specs.Core.{Noted, CoreStep}
 use Rattle.cl_front.specs.Front.{FrontState, new_front, delivered_front, fed_front, quiet_front, DeliveryFits, LineFits}
 use Rattle.cl_lone.specs.Lone.{lone_step}
-use Rattle.cl_runs.specs.Queues.{sent_to, QueueEvent, deliver, take_line, quieten, nothing}
+use Rattle.cl_runs.specs.Queues.{sent_to, QueueEvent, deliver, note_next, take_line, quieten}
 use Rattle.cl_runs.specs.World.{Shape, with_at, with_firm}
 use Rattle.cl_steps.specs.declared.actors.TheConstants.{FRONT}
 use Rattle.cl_steps.specs.declared.steps.Outgoing.{Outgoing}
@@ -71,7 +71,7 @@ after_replica_event shape world (deliver from to mark) = after_first shape world
 after_replica_event shape world (take_line number text said) =
     front_acts (record world { lines = world.lines + 1 }) (fed_front (nothing_noted shape) world.front number text said)
 after_replica_event shape world quieten = record world { front = quiet_front world.front }
-after_replica_event shape world nothing = world
+after_replica_event shape world other = world
 
 -- the system before any event
 abbrev pub first_replica_world : Shape → ReplicaWorld
@@ -96,16 +96,15 @@ MessageFits shape world from to content = FitsActor (to == FRONT) where
   FitsActor true = DeliveryFits (nothing_noted shape) world.front from content
   FitsActor false = Fits shape.nodes (world.replicas to) content
 
--- an event may happen: there is a message, or the line is the next one
+-- an event may happen: there is a message, or the line is the next one; nobody stops, so there is no entry to note
 abbrev pub MayReplicas : ReplicaWorld → QueueEvent → Type 0
 MayReplicas world (deliver from to mark) = (content : Content) × (rest : List Content) × (world.mail from to ≡ content ∷ rest)
 MayReplicas world (take_line number text said) = (number ≡ world.lines + 1) × (said ≡ [])
-MayReplicas world quieten = Unit {0}
-MayReplicas world nothing = Unit {0}
+MayReplicas world (note_next actor) = ⊥
+MayReplicas world other = Unit {0}
 
 -- what comes in an event fits whom it comes to
 abbrev pub EventFits : Shape → ReplicaWorld → QueueEvent → Type 0
 EventFits shape world (deliver from to mark) = (content : Content) (rest : List Content) → world.mail from to ≡ content ∷ rest → MessageFits shape world from to content
 EventFits shape world (take_line number text said) = LineFits (nothing_noted shape) world.front number text said
-EventFits shape world quieten = Unit {0}
-EventFits shape world nothing = Unit {0}
+EventFits shape world other = Unit {0}

@@ -1,5 +1,6 @@
 -- The system that the program runs: what its front and its nodes decide.
 use Rattle.std.specs.Prelude.{ℕ, ◌==◌, Bool, true, false, not, if◌then◌else◌, List, [], Result, Ok, Err}
+use Rattle.cl_actor.specs.Acting.{unmoved}
 use Rattle.cl_actor.specs.Core.{Noted, CoreStep}
 use Rattle.cl_front.specs.Front.{FrontState, new_front, delivered_front, fed_front, quiet_front, is_answered}
 use Rattle.cl_lines.specs.Line.{line_of}
@@ -67,6 +68,10 @@ system nodes = record {
   first = first_core nodes;
   delivered = delivered_core;
   fed = fed_core;
+  -- no stop is admitted yet, so no entry is ever offered or noted
+  noted = λ actor known state entry. unmoved state;
+  stopped = λ known state n. unmoved state;
+  stopped_lawfully = λ known state n. tt;
   quieted = quieted_core;
   at_rest = is_core_at_rest;
   waits_for_quiet = λ text. is_operators (line_of text);

@@ -12,7 +12,7 @@ use Rattle.cl_front.specs.Session.{SessionState, no_session}
 use Rattle.cl_front.specs.Sessions.{session_in}
 use Rattle.cl_front.specs.declared.current.Current.{Current}
 use Rattle.cl_lone.specs.Lone.{lone_step}
-use Rattle.cl_runs.specs.Queues.{QueueEvent, deliver, take_line, quieten, nothing}
+use Rattle.cl_runs.specs.Queues.{QueueEvent, deliver, take_line, quieten}
 use Rattle.cl_runs.specs.World.{Shape}
 use Rattle.cl_serial.specs.Transcript.{gather}
 use Rattle.cl_steps.specs.declared.actors.TheConstants.{FRONT}
@@ -140,7 +140,7 @@ module _ (shape : Shape) (counted : IsNodeCount shape.nodes) (world : ReplicaWor
       (message_told from to content rest mark waits (first_addressed shape world from to content rest sound waits) s one most)
   event_told (take_line number text said) may s one most = line_told shape counted world sound.sessions s one most (sound.stages s one most) (told_in s one most) number text said
   event_told quieten may s one most = quiet_told shape world s (told_in s one most)
-  event_told nothing may s one most = told_in s one most
+  event_told other may s one most = told_in s one most
 
 pub events_keep_told : EventsKeepTold
 events_keep_told shape world event size sound told may s one most =

@@ -10,6 +10,7 @@ use Rattle.cl_cluster.specs.Laws.{EveryInputFits}
 use Rattle.cl_post.specs.declared.event.Event.{Event}
 use Rattle.cl_post.specs.declared.event.Event.TheVariants as events
 use Rattle.cl_ranges.specs.Spent.{is_spent, IsUnspentRun}
+use Rattle.cl_roster.specs.declared.entry.RosterEntry.{RosterEntry}
 use Rattle.cl_runs.specs.World.{Shape, Run, Happening, IsLiving, IsEnabled, MayHandle, EachMayHappen, after_event, first_world, world_after}
 use Rattle.cl_runs.specs.Laws.{GoesOn}
 use Rattle.cl_runs.proofs.Runs.{runs_go_on, runs_are_wide}
@@ -31,11 +32,11 @@ either true = refl
 either false = refl
 
 -- who lives passes the test
-lives_by_test : (shape : Shape) (actor : ℕ) → IsLiving shape actor → is_living (living_in shape) actor ≡ true
-lives_by_test shape actor lives =
+lives_by_test : (shape : Shape) (roster : List RosterEntry) (actor : ℕ) → IsLiving shape roster actor → is_living (living_in shape) actor ≡ true
+lives_by_test shape roster actor lives =
     elim lives [
       | inl here ↦ ap (λ b. b || ltb actor (living_in shape)) (eq-eqb actor FRONT here)
-      | inr within ↦ ap (λ b. eqb actor FRONT || b) (lt-ltb actor (living_in shape) within) ∙ either (eqb actor FRONT)
+      | inr within ↦ ap (λ b. eqb actor FRONT || b) (lt-ltb actor (living_in shape) within.0) ∙ either (eqb actor FRONT)
     ]
 
 -- a packet that is not forgotten, and may be handled, is kept
@@ -43,7 +44,8 @@ still_kept : (shape : Shape) (made : World) (moment : Moment) (event : Event) �
     IsNotForgotten (living_in shape) made.mail moment.packets event → IsStillKept made.mail event
 still_kept shape made moment (events.Handle actor id) may kept =
     let handles : MayHandle shape moment actor id = may.widely in
-    kept handles.packet handles.emitted (subst (λ a. is_living (living_in shape) a ≡ true) (sym handles.addressed) (lives_by_test shape actor handles.lives))
+    kept handles.packet handles.emitted (subst (λ a. is_living (living_in shape) a ≡ true) (sym handles.addressed)
+    (lives_by_test shape moment.roster actor handles.lives))
 still_kept shape made moment (events.Tick actor) may kept = tt
 still_kept shape made moment (events.Feed number text said) may kept = tt
 still_kept shape made moment events.Quiet may kept = tt

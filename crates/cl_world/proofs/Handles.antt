@@ -12,7 +12,7 @@ use Rattle.cl_world.proofs.Packets.{kept_at}
 -- the packet of a slot may be handled exactly where the actor admits it
 pub may_handle_where : (shape : Shape) (moment : Moment) (slots : List (Option Packet)) (actor id index : ℕ) (packet : Packet) (result : Bool) → AreKept (messages_in slots) moment.packets →
     1 ≤ id → id - 1 ≡ index → Some packet ≡ slot_at slots index →
-    IsTrue result ↔ (IsLiving shape actor × (packet.to ≡ actor) × (packet.set ≤ set_number (moment.actors actor).endpoint)) →
+    IsTrue result ↔ (IsLiving shape moment.roster actor × (packet.to ≡ actor) × (packet.set ≤ set_number (moment.actors actor).endpoint)) →
     IsTrue result ↔ (MayHandle shape moment actor id × IsSome (slot_at slots (id - 1)))
 may_handle_where shape moment slots actor id index packet result kept numbered at is admits =
     let there : slot_at slots (id - 1) ≡ Some packet = subst (λ i. slot_at slots i ≡ Some packet) (sym at) (sym is) in

@@ -6,4 +6,5 @@ pub mod Handles
 pub mod Quiets
 pub mod Takes
 pub mod Follows
+pub mod Stops
 pub mod Audits

@@ -34,7 +34,7 @@ with_at-elsewhere f number value other ne = ap (λ here. cond here value (f othe
 
 -- a living actor that is not the front is a node or a spare
 pub is_member : (shape : Shape) (actors : Actors) (states : States) (actor : ℕ) (input : Input) → MayAct shape actors states actor input → actor ≢ FRONT → actor < shape.nodes + shape.spares
-is_member shape actors states actor input may ne = elim may.lives [ inl here ↦ absurd (ne here) | inr lives ↦ lives ]
+is_member shape actors states actor input may ne = elim may.lives [ inl here ↦ absurd (ne here) | inr lives ↦ lives.0 ]
 
 -- its place is within the list
 pub member_bound : (shape : Shape) (actors : Actors) (states : States) (actor : ℕ) (input : Input) → MayAct shape actors states actor input → actor ≢ FRONT → actor < length actors.members.items

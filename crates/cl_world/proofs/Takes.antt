@@ -22,6 +22,7 @@ use Rattle.cl_post.specs.Steps as inputs
 use Rattle.cl_ranges.specs.Spent.{is_packet_spent, is_spent}
 use Rattle.cl_ranked.specs.Slots.{slot_at}
 use Rattle.cl_roster.specs.Roster.{IsClusterSize}
+use Rattle.cl_roster.specs.declared.entry.RosterEntry.{RosterEntry}
 use Rattle.cl_runs.specs.World.{Shape, IsLiving, MayHandle, IsEnabled, after, after_handling, after_acting, packet_at, quiet, with_firm}
 use Rattle.cl_runs.proofs.Updates.{with_at-here}
 use Rattle.cl_steps.specs.declared.actors.TheConstants.{FRONT}
@@ -56,7 +57,8 @@ pub packet_given : (slots : List (Option Packet)) (moment : Moment) (actor id : 
 packet_given slots moment actor id event packet is there kept =
     subst (λ e. inputs.handle (message_of packet) ≡ input_at moment (happening_of e)) (sym is) (sym (ap packet_input (kept_at slots moment.packets (id - 1) packet kept (sym there))))
 
-living_of : (shape : Shape) (made : World) (moment : Moment) (event : Event) → IsStepEvent event → MayTake shape made moment event → IsLiving shape (actor_of event)
+living_of : (shape : Shape) (made : World) (moment : Moment) (event : Event) → IsStepEvent event → MayTake shape made moment event →
+    IsLiving shape moment.roster (actor_of event)
 living_of shape made moment (events.Handle actor id) step may = may.enabled.widely.lives
 living_of shape made moment (events.Tick actor) step may = may.enabled.widely
 living_of shape made moment (events.Feed number text said) step may = inl refl
@@ -78,7 +80,7 @@ may_act shape made moment event step at may = record {
   size = at.size;
   before = at.actors;
   there = may.whole;
-  lives = living_of shape made moment event step may;
+  lives = subst (λ roster. IsLiving shape roster (actor_of event)) at.unstopped (living_of shape made moment event step may);
   fits = fitting_of shape made moment event step may;
 }
 
@@ -159,6 +161,7 @@ has_taken shape before after moment event outs step at may unspent acted noted k
       history = firm_after shape before after moment event outs at acted noted;
       lines = noted.lines ∙ ap (λ n. lines_with n event) at.lines;
       quiet = noted.quiet;
+      unstopped = at.unstopped;
     } in
     let keeps_them : KeepsEmitted shape before after moment (acted_moment moment event outs.short) = record { more = more; emitted = refl; kept = slots } in
     record {
@@ -202,11 +205,12 @@ unfailed shape made moment event at may = record {
 }
 
 -- a node that acted is let go
-pub lost_node : (shape : Shape) (actors : Actors) (states : States) (actor : ℕ) (input : Input) (outs : Outs) → IsClusterSize shape.nodes shape.spares → IsLiving shape actor → actor ≢ FRONT →
+pub lost_node : (shape : Shape) (actors : Actors) (states : States) (actor : ℕ) (input : Input) (outs : Outs) → IsClusterSize shape.nodes shape.spares →
+    (roster : List RosterEntry) → IsLiving shape roster actor → actor ≢ FRONT →
     ((k : ℕ) → k < shape.nodes + shape.spares → k ≢ actor → IsNodeIn (member_at actors k) (states k)) → IsFrontIn actors.front (states FRONT) → HasActed shape actors states actor input outs →
     HasFailed shape (record actors { members = with_item actors.members actor None }) states actor
-lost_node shape actors states actor input outs size lives ne others front acted =
-    let inside : actor < shape.nodes + shape.spares = elim lives [ inl here ↦ absurd (ne here) | inr within ↦ within ] in
+lost_node shape actors states actor input outs size roster lives ne others front acted =
+    let inside : actor < shape.nodes + shape.spares = elim lives [ inl here ↦ absurd (ne here) | inr within ↦ within.0 ] in
     record {
       same = record {
         front = front;
@@ -272,7 +276,8 @@ not_the_front shape before middle moment event outs count room at may acted coun
 pub lose_bound : (shape : Shape) (before middle : World) (moment : Moment) (event : Event) (outs : Outs) → IsStepEvent event → MayTake shape before moment event →
     HasActed shape middle.actors moment.actors (actor_of event) (input_at moment (happening_of event)) outs → actor_of event ≢ FRONT → actor_of event < length middle.actors.members.items
 lose_bound shape before middle moment event outs step may acted ne =
-    let inside : actor_of event < shape.nodes + shape.spares = elim (living_of shape before moment event step may) [ inl here ↦ absurd (ne here) | inr within ↦ within ] in
+    let inside : actor_of event < shape.nodes + shape.spares = elim
+    (living_of shape before moment event step may) [ inl here ↦ absurd (ne here) | inr within ↦ within.0 ] in
     omega (arith, inside, acted.after.counted)
 
 -- what a step made firm has no room
@@ -282,7 +287,8 @@ pub gives_up : (shape : Shape) (before middle after : World) (moment : Moment) (
     after.roster ≡ before.roster → entries after.trace ≡ entries before.trace → HasLost shape before after moment event NoMemory
 gives_up shape before middle after moment event outs actor step at may acted ne is actors firm roster trace =
     let others = unmoved_others shape middle.actors moment.actors (actor_of event) (input_at moment (happening_of event)) outs ne acted in
-    let failed = lost_node shape middle.actors moment.actors (actor_of event) (input_at moment (happening_of event)) outs at.size (living_of shape before moment event step may) ne others.0 others.1 acted in
+    let failed = lost_node shape middle.actors moment.actors (actor_of event) (input_at moment (happening_of event)) outs at.size moment.roster
+    (living_of shape before moment event step may) ne others.0 others.1 acted in
     let same : record middle.actors { members = with_item middle.actors.members (actor_of event) None } ≡ after.actors
     = sym (actors ∙ ap (λ (a : ℕ). let all : Actors = record middle.actors { members = with_item middle.actors.members a None } in all) is) in
     has_lost shape before after moment event NoMemory at (subst (λ all. HasFailed shape all moment.actors (actor_of event)) same failed)
@@ -328,6 +334,7 @@ quiet_taken shape before after moment at may nodes spares roster members mail fi
         history = firm ∙ at.history;
         lines = lines ∙ at.lines;
         quiet = quiet_now;
+        unstopped = at.unstopped;
       };
       whole = record {
         front = here;
@@ -351,6 +358,7 @@ at_with shape made trace moment at = record {
   history = at.history;
   lines = at.lines;
   quiet = at.quiet;
+  unstopped = at.unstopped;
 }
 
 pub may_with : (shape : Shape) (made : World) (trace : AppendOnlyList (Event × Bool)) (moment : Moment) (event : Event) → MayTake shape made moment event → MayTake shape (record made { trace = trace }) moment event

@@ -124,7 +124,8 @@ pub record MayAct (shape : Shape) (actors : Actors) (states : States) (actor : â
   pub size : IsClusterSize shape.nodes shape.spares
   pub before : AreActors shape actors states
   pub there : AreAllThere shape actors
-  pub lives : IsLiving shape actor
+  -- nobody has stopped
+  pub lives : IsLiving shape [] actor
   pub fits : InputFits actor (states actor) input
 
 -- the actors before any event

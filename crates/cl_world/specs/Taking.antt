@@ -6,7 +6,7 @@ use Rattle.cl_post.specs.declared.event.Event.TheVariants as events
 use Rattle.cl_post.specs.Steps.{Input}
 use Rattle.cl_post.specs.Steps as inputs
 use Rattle.cl_ranges.specs.Spent.{is_spent}
-use Rattle.cl_runs.specs.World.{Shape, Happening, handle, tick, feed, quiet, packet_at, after, IsEnabled}
+use Rattle.cl_runs.specs.World.{Shape, Happening, handle, tick, feed, packet_at, after, IsEnabled}
 use Rattle.cl_steps.specs.declared.actors.TheConstants.{FRONT}
 use Rattle.cl_system.specs.System.{system}
 use Rattle.cl_types.specs.AppendOnlyList.{entries}
@@ -55,12 +55,12 @@ abbrev pub packet_input : Option Message → Input
 packet_input None = inputs.tick
 packet_input (Some m) = inputs.handle m
 
--- what an event gives its actor
+-- what an event gives its actor; no program makes an event of another kind than these
 abbrev pub input_at : Moment → Happening → Input
 input_at moment (handle actor id) = packet_input (packet_at moment id)
 input_at moment (tick actor) = inputs.tick
 input_at moment (feed number text said) = inputs.feed number text said
-input_at moment quiet = inputs.quiet
+input_at moment other = inputs.quiet
 
 -- the event with this mark needs a number above its limit
 abbrev pub is_event_spent : Moment → Event → Bool → Bool

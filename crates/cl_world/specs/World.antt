@@ -43,6 +43,8 @@ pub record IsAt (shape : Shape) (made : World) (moment : Moment) : Type 0 where
   pub history : firm_in made.firm ≡ moment.history
   pub lines : made.lines ≡ moment.lines
   pub quiet : made.quiet_now ≡ moment.is_quiet_now
+  -- nobody has stopped
+  pub unstopped : moment.roster ≡ []
 
 -- the world has made this run, of which no step needed a number above its limit
 pub record IsWorldOf (shape : Shape) (made : World) (run : Run) : Type 0 where

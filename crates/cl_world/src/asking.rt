@@ -1,5 +1,5 @@
 //! What may happen now.
-ghost use Rattle.std.specs.Prelude.{◌≡◌, ◌↔◌, ◌-◌, ◌<◌, ◌≤◌, ℕ, true, None, IsTrue, IsSome, length, slice_index_or};
+ghost use Rattle.std.specs.Prelude.{◌≡◌, ◌↔◌, ◌-◌, ◌<◌, ◌≤◌, ℕ, true, None, IsTrue, IsSome, [], length, slice_index_or};
 ghost use Rattle.cl_endpoint.specs.Endpoint.{set_number};
 ghost use Rattle.cl_lines.specs.Line.{line_of};
 ghost use Rattle.cl_ranked.specs.Slots.{slot_at};
@@ -43,7 +43,7 @@ fn members_rest(members: &[Option<Node>]) -> bool
 impl Actors {
     /// Whether the actor is the front, a node or a spare.
     fn lives(&self, actor: u32) -> bool
-        ensures { (shape : Shape) (states : States) → AreActors shape self.now states → IsTrue result ↔ IsLiving shape actor }
+        ensures { (shape : Shape) (states : States) → AreActors shape self.now states → IsTrue result ↔ IsLiving shape [] actor }
     {
         actor == FRONT || (actor as usize) < self.members.len()
     }
@@ -62,7 +62,7 @@ impl Actors {
     /// Whether each actor is at rest, and has no message that is not acknowledged.
     fn rest(&self) -> bool
         ensures { (shape : Shape) (states : States) → AreActors shape self.now states → AreAllThere shape self.now
-            → IsTrue result ↔ ((actor : ℕ) → IsLiving shape actor → IsResting (states actor)) }
+            → IsTrue result ↔ ((actor : ℕ) → IsLiving shape [] actor → IsResting (states actor)) }
     {
         self.front.rests() && members_rest(&self.members)
     }
@@ -82,7 +82,7 @@ impl World {
     // Whether the actor may handle that packet.
     fn admits(&self, packet: &Packet, actor: u32) -> bool
         ensures { (shape : Shape) (moment : Moment) → IsAt shape self.now moment → IsWhole shape self.now
-            → IsTrue result ↔ (IsLiving shape actor × (packet.now.to ≡ actor) × (packet.now.set ≤ set_number (moment.actors actor).endpoint)) }
+            → IsTrue result ↔ (IsLiving shape moment.roster actor × (packet.now.to ≡ actor) × (packet.now.set ≤ set_number (moment.actors actor).endpoint)) }
     {
         if packet.to != actor {
             return false;

@@ -141,7 +141,8 @@ impl World {
     /// Whether a message of the actor is unsent or unacknowledged. It is false of an actor that is not there.
     pub fn waiting(&self, actor: u32) -> bool
         ensures told { result ≡ is_waiting_at self.now.actors actor }
-        ensures made { (shape : Shape) (run : Run) → IsWorldOf shape self.now run → IsWhole shape self.now → IsLiving shape actor
+        ensures made { (shape : Shape) (run : Run) → IsWorldOf shape self.now run → IsWhole shape self.now
+            → IsLiving shape (moment_after shape run).roster actor
             → result ≡ is_waiting ((moment_after shape run).actors actor).endpoint }
     {
         self.actors.waiting(actor)

@@ -5,7 +5,9 @@ use Rattle.std.proofs.lemmas.Bool.{and_parts, eqb-true}
 use Rattle.std.proofs.lemmas.List.{append-nil, append_assoc, length-append}
 use Rattle.std.proofs.lemmas.List.FromFn.{length-enumerate_from}
 use Rattle.std.proofs.lemmas.Grind.{flat_map-append}
-use Rattle.cl_runs.specs.World.{Cores, Happening, handle, tick, feed, quiet, Run, Shape, World, after, after_event, after_handling, first_world, world_after}
+use Rattle.cl_endpoint.specs.Endpoint.{set_number}
+use Rattle.cl_roster.specs.declared.entry.RosterEntry.{RosterEntry}
+use Rattle.cl_runs.specs.World.{Cores, Happening, handle, note, feed, quiet, Run, Shape, World, after, after_event, after_handling, after_noting, first_world, world_after}
 use Rattle.cl_schedule.specs.Course.{Candidate, Course, candidates, is_quiet, line, must_wait, next_line, or_else, packet, packets_from, time, waiting_actors}
 use Rattle.cl_schedule.specs.Schedule.{to_happen}
 use Rattle.cl_schedule.specs.Turns.{AreTurns, FatesOf, IsTurn, events_of, first_course, is_handled, is_over, left_after, lines_in, next_events, taken}
@@ -23,13 +25,18 @@ handled_lines : {S : Type 0} (cores : Cores S) (world : World S) (actor : ℕ) (
 handled_lines cores world actor mark None = refl
 handled_lines cores world actor mark (Some m) = refl
 
+noted_lines : {S : Type 0} (cores : Cores S) (world : World S) (actor : ℕ) (next : Option RosterEntry) → (after_noting cores world actor next).lines
+    ≡ world.lines
+noted_lines cores world actor None = refl
+noted_lines cores world actor (Some entry) = refl
+
 event_lines : {S : Type 0} (cores : Cores S) (world : World S) (happening : Happening) (mark : Bool) →
     (after cores world happening mark).lines ≡ world.lines + length (feeds_of happening)
 unfolding after
 event_lines cores world (handle actor id) mark = handled_lines cores world actor mark (slice_get world.packets (id - 1)) ∙ omega arith
-event_lines cores world (tick actor) mark = omega arith
+event_lines cores world (note actor) mark = noted_lines cores world actor (slice_get world.roster (set_number (world.actors actor).endpoint)) ∙ omega arith
 event_lines cores world (feed number text said) mark = refl
-event_lines cores world quiet mark = omega arith
+event_lines cores world other mark = omega arith
 
 run_lines : {S : Type 0} (cores : Cores S) (world : World S) (run : Run) → (fold (after_event cores) world run).lines ≡ world.lines + length (feeds_in run)
 run_lines cores world [] = omega arith

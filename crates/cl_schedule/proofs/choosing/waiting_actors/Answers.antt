@@ -1,5 +1,7 @@
-use Rattle.std.proofs.Common.{◌≡◌, inl, inr, refl, ◌∙◌, ◌<◌, ◌^◌, arith}
+use Rattle.std.proofs.Common.{◌≡◌, List, inl, inr, refl, ap, ◌∙◌, ◌<◌, ◌^◌, arith}
 use Rattle.cl_endpoint.specs.Endpoint.{is_waiting}
+use Rattle.cl_roster.specs.declared.entry.RosterEntry.{RosterEntry}
+use Rattle.cl_roster.specs.Roster.{has_stopped}
 use Rattle.cl_world.specs.World.{moment_after}
 use Rattle.cl_schedule.proofs.Waits.{all_wait, front_waits, node_fits, waits_more}
 use Rattle.cl_schedule.proofs.choosing.waiting_actors.Goals as goal
@@ -13,7 +15,10 @@ pub loop-index-preserved : goal.loop-index-preserved
 loop-index-preserved c = λ shape run sound.
     waits_more (λ actor. is_waiting ((moment_after shape run).actors actor).endpoint) c.loop-index.actors.items c.add_where-in-loop-index.new.actors.items c.loop-index.index c.waiting-in-loop-index.result
     (c.loop-index.invariant shape run sound) c.in_ok-add_where-2.ensures
-    (c.waiting-in-loop-index.ensures.made shape run sound.is sound.whole (inr (let counted = c.members-index-end.ensures shape run sound.is in let within = c.loop-index-test.true in omega arith)))
+    (c.waiting-in-loop-index.ensures.made shape run sound.is sound.whole (inr (
+      let counted = c.members-index-end.ensures shape run sound.is in let within = c.loop-index-test.true in omega arith,
+      ap (λ (roster : List RosterEntry). has_stopped roster c.loop-index.index) sound.is.now.unstopped,
+    )))
 
 pub overflow_cast-actor : goal.overflow_cast-actor
 overflow_cast-actor c =

@@ -20,5 +20,6 @@ returns-clause-made c = λ shape run made. record {
     history = made.now.history;
     lines = made.now.lines;
     quiet = made.now.quiet;
+    unstopped = made.now.unstopped;
   };
 }

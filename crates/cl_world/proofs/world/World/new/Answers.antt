@@ -23,5 +23,6 @@ returns-clause-made c = record {
     history = c.new-3.ensures;
     lines = refl;
     quiet = refl;
+    unstopped = refl;
   };
 }
